@@ -109,6 +109,10 @@ ranged-within z d e =
     let h : unsigned_abs z ≤ 1000000000000000000000000 = grind (arith, nat_tests, p.0) in
     subst IsInRange p.1 h
 
+pub ranged_is : (z d : ℤ) → ranged z ≡ Ok d → z ≡ d
+unfolding ranged
+ranged_is z d e = (within_test (nat_le (unsigned_abs z) 1000000000000000000000000) z d e).1
+
 pub difference-within : (a b d : ℤ) → difference_of a b ≡ Ok d → IsInRange d
 unfolding difference_of
 difference-within a b d e = ranged-within (a -ℤ b) d e

@@ -5,6 +5,7 @@ ghost use Rattle.std.specs.Prelude.{◌≡◌, ◌+◌, ◌<◌, ◌≤◌, ◌^
 ghost use Rattle.std.specs.List.{All, swap};
 ghost use Rattle.fix_core.specs.Fixed.{IsInRange};
 ghost use Rattle.lin_solve.specs.Elimination.{coefficient, minus_row as minus_row_of, reduced, reduced_all, unknown as unknown_of, pivot_place as pivot_place_of, unknowns as unknowns_of, largest as largest_of, tenfold as tenfold_of, scaled, scaled_all, solution_of};
+ghost use Rattle.lin_solve.specs.Laws.{TwelveTurnsAreEnough, ZeroFactorKeepsTheRow};
 ghost use Rattle.lin_solve.specs.Codes.{code_of};
 ghost use Rattle.lin_solve.specs.Answer.{answer, items_of, IsRow};
 
@@ -36,6 +37,18 @@ impl LinFault {
         }
     }
 }
+
+/// Twelve times ten are enough to scale a row. It is proved, and does nothing when it runs.
+#[tactic(auto, using(crate::proofs::ScalingLaws::laws))]
+pub fn twelve_turns_are_enough()
+    ensures { TwelveTurnsAreEnough }
+{}
+
+/// A row that loses the pivot row 0 times stays as it is. It is proved, and does nothing when it runs.
+#[tactic(auto, using(crate::proofs::ScalingLaws::laws))]
+pub fn zero_factor_keeps_the_row()
+    ensures { ZeroFactorKeepsTheRow }
+{}
 
 /// Each entry loses `factor` times the pivot row's entry in the same column.
 #[tactic(auto, using(crate::proofs::Steps::minus_rows))]
@@ -347,4 +360,69 @@ pub fn solve(rows: &mut Rows, out: &mut Point) -> Result<(), LinFault>
     solve_rows(rows.rows.as_mut_slice(), rows.unknowns.as_mut_slice())?;
     out.copy_from_slice(rows.unknowns.as_slice());
     Ok(())
+}
+
+#[cfg(test)]
+mod tests {
+    use super::{LinFault, Rows, solve};
+    use ams_point::Point;
+    use fix_core::Fix;
+    use std::test::Fail;
+
+    /// A system of two rows, in tenths, and its unknowns in tenths, or the fault.
+    struct Worked {
+        entries: &'static [i32; 6],
+        answer: Result<(i32, i32), LinFault>,
+    }
+
+    const WORKED: [Worked; 3] = [
+        Worked {
+            entries: &[20, 10, 30, 10, 30, 50],
+            answer: Ok((8, 14)),
+        },
+        Worked {
+            entries: &[10, 10, 10, 10, 10, 20],
+            answer: Err(LinFault::Singular(1)),
+        },
+        Worked {
+            entries: &[0, 20, 40, 30, 0, 60],
+            answer: Ok((20, 20)),
+        },
+    ];
+
+    fn tenths(n: i32) -> Fix {
+        Fix::exactly(i128::from(n) * 100_000_000_000)
+    }
+
+    fn fill(rows: &mut Rows, entries: &[i32; 6])
+        requires { length rows.old ≡ 2 }
+        ensures { length rows.new ≡ 2 }
+    {
+        rows.set(0, 0, tenths(entries[0]));
+        rows.set(0, 1, tenths(entries[1]));
+        rows.set(0, 2, tenths(entries[2]));
+        rows.set(1, 0, tenths(entries[3]));
+        rows.set(1, 1, tenths(entries[4]));
+        rows.set(1, 2, tenths(entries[5]));
+    }
+
+    #[test]
+    fn two_rows(rt: HostRuntime) -> Result<(), Fail> {
+        for worked in &WORKED {
+            let mut rows = Rows::new(rt.alloc(), 2)?;
+            let mut out = Point::new(rt.alloc(), 2)?;
+            assert_eq!(rt; rows.len(), 2);
+            fill(&mut rows, worked.entries);
+            let solved = solve(&mut rows, &mut out);
+            match worked.answer {
+                Ok((x, y)) => {
+                    assert!(rt; solved.is_ok());
+                    let unknowns = [tenths(x), tenths(y)];
+                    assert!(rt; out.as_slice() == unknowns.as_slice());
+                }
+                Err(fault) => assert_eq!(rt; solved.err(), Some(fault)),
+            }
+        }
+        Ok(())
+    }
 }
