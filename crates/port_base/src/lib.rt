@@ -1,7 +1,7 @@
 //! What is told of sources and sinks of bytes: how often they failed, what is left, what is held.
 #![tactic(auto)]
 
-ghost use Rattle.std.specs.Prelude.{◌≡◌, ◌+◌, min};
+ghost use Rattle.std.specs.Prelude.{◌≡◌, ◌+◌, ◌≤◌, min};
 ghost use Rattle.port_base.specs.Faults.{Rose};
 ghost use Rattle.port_base.specs.Told.{FrontsJoin, PiecesJoin};
 ghost use Rattle.port_base.specs.Lines.{LinesJoin};
@@ -41,6 +41,7 @@ impl FaultCount {
     /// Counts one more fault.
     pub fn rise(&mut self)
         ensures value { self.new ≡ min (self.old + 1) 18446744073709551615 }
+        ensures later { self.old ≤ self.new }
         ensures rose { Rose self.old self.new }
     {
         self.count = self.count.saturating_add(1);
