@@ -74,7 +74,12 @@ pub enum FlatExpr {
 impl FlatExpr {
     ghost use Rattle.flat_expr.specs.declared.expr.FlatExpr.TheVariants as e;
 
-    pub fn unary(alloc: Global, op: Op1, gives: ValueType, operand: FlatExpr) -> Result<FlatExpr, AllocError>
+    pub fn unary(
+        alloc: Global,
+        op: Op1,
+        gives: ValueType,
+        operand: FlatExpr,
+    ) -> Result<FlatExpr, AllocError>
         ensures { IfOk result (λ made. made ≡ e.Unary op gives operand) }
     {
         Ok(FlatExpr::Unary(op, gives, Boxed::new(alloc, operand)?))
@@ -94,13 +99,22 @@ impl FlatExpr {
         Ok(FlatExpr::Binary(op, gives, left, right))
     }
 
-    pub fn call(alloc: Global, function: Function, argument: FlatExpr) -> Result<FlatExpr, AllocError>
+    pub fn call(
+        alloc: Global,
+        function: Function,
+        argument: FlatExpr,
+    ) -> Result<FlatExpr, AllocError>
         ensures { IfOk result (λ made. made ≡ e.Call function argument) }
     {
         Ok(FlatExpr::Call(function, Boxed::new(alloc, argument)?))
     }
 
-    pub fn index(alloc: Global, vector: FlatExpr, at: FlatExpr, range: IndexRange) -> Result<FlatExpr, AllocError>
+    pub fn index(
+        alloc: Global,
+        vector: FlatExpr,
+        at: FlatExpr,
+        range: IndexRange,
+    ) -> Result<FlatExpr, AllocError>
         ensures { IfOk result (λ made. made ≡ e.Index vector at range) }
     {
         let vector = Boxed::new(alloc, vector)?;
@@ -131,7 +145,9 @@ impl FlatExpr {
     {
         match self {
             FlatExpr::Signal(other, _) => *other == signal,
-            FlatExpr::Unary(_, _, operand) | FlatExpr::Call(_, operand) => operand.get().reads(signal),
+            FlatExpr::Unary(_, _, operand) | FlatExpr::Call(_, operand) => operand
+                .get()
+                .reads(signal),
             FlatExpr::Binary(_, _, left, right) | FlatExpr::Index(left, right, _) => {
                 left.get().reads(signal) || right.get().reads(signal)
             }

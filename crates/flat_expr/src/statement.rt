@@ -70,8 +70,8 @@ pub enum Statement {
     For(u32, FlatExpr, Direction, FlatExpr, Items<Statement>),
     Exit(Option<FlatExpr>),
     Next(Option<FlatExpr>),
-    /// The sensitivity set, the condition and the timeout.
-    Wait(Items<SignalName>, Option<FlatExpr>, Option<FlatExpr>),
+    /// Its number among the waits of the process in text order, the sensitivity set, the condition and the timeout.
+    Wait(u32, Items<SignalName>, Option<FlatExpr>, Option<FlatExpr>),
     /// The condition, the text of the report and its severity.
     Assert(FlatExpr, Items<u8>, Severity),
     Report(Items<u8>, Severity),

@@ -1,0 +1,10 @@
+//! The flat design: the lists of objects that are left of a design after its elaboration, each object known by its
+//! number in its list, and the number order of unknowns and equations.
+#![tactic(auto)]
+
+mod objects;
+
+pub use objects::{
+    CaseArm, Choice, Enumeration, Equation, IfArm, Instance, Name, Node, Objects, Pair, Process,
+    Quantity, QuantityKind, Ramp, Selection, Signal, Terminal, Threshold, Variable, WaitPlace,
+};
