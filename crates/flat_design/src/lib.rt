@@ -2,8 +2,11 @@
 //! number in its list, and the number order of unknowns and equations.
 #![tactic(auto)]
 
+mod names;
 mod objects;
+mod reads;
 
+pub use names::EquationName;
 pub use objects::{
     CaseArm, Choice, Enumeration, Equation, IfArm, Instance, Name, Node, Objects, Pair, Process,
     Quantity, QuantityKind, Ramp, Selection, Signal, Terminal, Threshold, Variable, WaitPlace,
