@@ -38,4 +38,4 @@ is_read objects s = list_any (equation_reads s) objects.equations
 abbrev pub frame_of : Objects → List SignalName
 frame_of objects =
     filter (is_read objects) (map Signal (range_with_len 0 (length objects.signals)))
-        ++ filter (is_read objects) (map Threshold (range_with_len 0 (length objects.thresholds)))
+    ++ filter (is_read objects) (map Threshold (range_with_len 0 (length objects.thresholds)))

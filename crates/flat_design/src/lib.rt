@@ -2,12 +2,15 @@
 //! number in its list, and the number order of unknowns and equations.
 #![tactic(auto)]
 
+mod flat;
 mod names;
 mod objects;
 mod reads;
 
+pub use flat::{Flat, numbers_find_unknowns};
 pub use names::EquationName;
 pub use objects::{
-    CaseArm, Choice, Enumeration, Equation, IfArm, Instance, Name, Node, Objects, Pair, Process,
-    Quantity, QuantityKind, Ramp, Selection, Signal, Terminal, Threshold, Variable, WaitPlace,
+    CaseArm, Choice, Enumeration, Equation, IfArm, Instance, Name, Node, Objects, Pair, PathStep,
+    Process, Quantity, QuantityKind, Ramp, Selection, Signal, Terminal, Threshold, Variable,
+    WaitPlace,
 };

@@ -4,7 +4,7 @@ ghost use Rattle.flat_design.specs.Lists.{same_threshold, place_of_dot, with_dot
 
 use ams_value::Val;
 use fix_core::Fix;
-use flat_expr::{Constraint, FlatExpr, SignalName, Statement, ValueType};
+use flat_expr::{Constraint, FlatExpr, Statement, ValueType};
 use sqlite_items::Items;
 use std::alloc::{AllocError, Global};
 
@@ -111,10 +111,19 @@ pub struct Variable {
     pub is_parameter: bool,
 }
 
-/// A wait statement: its sensitivity set, and the parameters of the for loops round it, the outermost first.
+/// A step on the way from a list of statements to one of its statements, and on to a branch of an `if` or an
+/// alternative of a case; the branch after `else` comes last. The body of a loop is branch 0.
+#[derive(Clone, Copy, Debug, PartialEq, Eq)]
+pub struct PathStep {
+    pub statement: u32,
+    pub branch: u32,
+}
+
+/// A wait statement: the way to it from the statements of the process, and the parameters of the for loops round it,
+/// the outermost first.
 #[derive(Drop)]
 pub struct WaitPlace {
-    pub sensitivity: Items<SignalName>,
+    pub path: Items<PathStep>,
     pub parameters: Items<u32>,
 }
 

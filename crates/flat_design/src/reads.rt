@@ -24,14 +24,14 @@ fn pairs_read(pairs: &[Pair], signal: SignalName) -> bool
 fn if_arms_read(arms: &[IfArm], signal: SignalName) -> bool
     ensures { result ≡ list_any (if_arm_reads signal) arms.now }
 {
-    arms.iter()
-        .any(|arm| arm.condition.reads(signal) || pairs_read(arm.pairs.as_slice(), signal))
+    arms.iter().any(|arm| arm.condition.reads(signal) || pairs_read(arm.pairs.as_slice(), signal))
 }
 
 fn case_arms_read(arms: &[CaseArm], signal: SignalName) -> bool
     ensures { result ≡ list_any (case_arm_reads signal) arms.now }
 {
-    arms.iter().any(|arm| pairs_read(arm.pairs.as_slice(), signal))
+    arms.iter()
+        .any(|arm| pairs_read(arm.pairs.as_slice(), signal))
 }
 
 fn selection_reads(selection: &Selection, signal: SignalName) -> bool
@@ -59,10 +59,16 @@ fn equation_reads(equation: &Equation, signal: SignalName) -> bool
 fn is_read(equations: &[Equation], signal: SignalName) -> bool
     ensures { result ≡ list_any (equation_reads signal) equations.now }
 {
-    equations.iter().any(|equation| equation_reads(equation, signal))
+    equations
+        .iter()
+        .any(|equation| equation_reads(equation, signal))
 }
 
-fn signals_read(alloc: Global, equations: &[Equation], count: u32) -> Result<Vec<SignalName>, AllocError>
+fn signals_read(
+    alloc: Global,
+    equations: &[Equation],
+    count: u32,
+) -> Result<Vec<SignalName>, AllocError>
     ensures { IfOk result (λ found. found.items ≡ filter (λ s. list_any (equation_reads s) equations.now) (map Signal (range_with_len 0 count))) }
 {
     (0..count)
@@ -71,7 +77,11 @@ fn signals_read(alloc: Global, equations: &[Equation], count: u32) -> Result<Vec
         .collect(alloc)
 }
 
-fn thresholds_read(alloc: Global, equations: &[Equation], count: u32) -> Result<Vec<SignalName>, AllocError>
+fn thresholds_read(
+    alloc: Global,
+    equations: &[Equation],
+    count: u32,
+) -> Result<Vec<SignalName>, AllocError>
     ensures { IfOk result (λ found. found.items ≡ filter (λ s. list_any (equation_reads s) equations.now) (map Threshold (range_with_len 0 count))) }
 {
     (0..count)
