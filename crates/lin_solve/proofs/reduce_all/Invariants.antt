@@ -1,0 +1,12 @@
+use Rattle.std.proofs.Common.{◌≡◌, length, take, drop}
+use Rattle.std.specs.List.{All}
+use Rattle.lin_solve.specs.Answer.{items_of, IsRow}
+use Rattle.lin_solve.specs.Elimination.{each, reduced, reduced_all}
+use Rattle.lin_solve.proofs.Steps.{joined}
+use Rattle.lin_solve.proofs.reduce_all.Given as goal
+
+abbrev pub invariant-loop-i : goal.invariant-loop-i
+invariant-loop-i l = record {
+  so_far : reduced_all l.column l.pivot (items_of l.fn.rows) ≡ joined (take l.i (items_of l.rows)) (each (reduced l.column l.pivot) (drop l.i (items_of l.rows)));
+  rows : All (IsRow (length l.pivot)) (items_of l.rows);
+}

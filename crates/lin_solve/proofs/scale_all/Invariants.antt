@@ -1,0 +1,12 @@
+use Rattle.std.proofs.Common.{◌≡◌, take, drop}
+use Rattle.std.specs.List.{All}
+use Rattle.lin_solve.specs.Answer.{items_of, IsRow}
+use Rattle.lin_solve.specs.Elimination.{each, scaled, scaled_all}
+use Rattle.lin_solve.proofs.Steps.{joined}
+use Rattle.lin_solve.proofs.scale_all.Given as goal
+
+abbrev pub invariant-loop-i : goal.invariant-loop-i
+invariant-loop-i l = record {
+  so_far : scaled_all (items_of l.fn.rows) ≡ joined (take l.i (items_of l.rows)) (each (scaled 12) (drop l.i (items_of l.rows)));
+  rows : All (IsRow l.width) (items_of l.rows);
+}

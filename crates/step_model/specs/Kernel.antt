@@ -1,0 +1,49 @@
+-- The digital side between two calls.
+use Rattle.std.specs.Prelude.{◌≡◌, ℕ, Bool, ℤ, List, [], ◌++◌}
+use Rattle.step_data.specs.declared.event.Event.{Event}
+use Rattle.step_data.specs.declared.outcome.Refusal.{Refusal}
+use Rattle.step_data.specs.declared.outcome.Ran.{Ran}
+use Rattle.step_data.specs.declared.outcome.Ran.TheVariants.{Done, Refused}
+use Rattle.step_model.specs.System.{System, Digital, Cycle}
+
+-- not started yet; between two cycles; ended by a refusal; or without the memory that a call wanted
+pub data Stage : Type 0 where
+  Unstarted : Stage
+  Going : Stage
+  Ended : Refusal → Stage
+  Lost : Stage
+
+pub record KernelState : Type 0 where
+  pub stage : Stage
+  pub digital : Digital
+
+abbrev pub stage_after : Ran → Stage
+stage_after (Done broke) = Going
+stage_after (Refused refusal) = Ended refusal
+
+abbrev pub state_after : Cycle → KernelState
+state_after c = record { stage = stage_after c.ran; digital = c.digital }
+
+-- nothing happens, and the answer is the refusal
+abbrev pub refused_again : Digital → Refusal → Cycle
+refused_again d refusal = record { digital = d; events = []; ran = Refused refusal }
+
+-- what a call of `cycle` gives: once a refusal came, that refusal and nothing else
+abbrev pub cycle_by : Stage → System → Digital → ℕ → ℕ → List ℤ → Bool → Cycle
+cycle_by Unstarted sys d t n x to_time = sys.cycle d t n x to_time
+cycle_by Going sys d t n x to_time = sys.cycle d t n x to_time
+cycle_by (Ended refusal) sys d t n x to_time = refused_again d refusal
+cycle_by Lost sys d t n x to_time = sys.cycle d t n x to_time
+
+abbrev pub cycle_of : System → KernelState → ℕ → ℕ → List ℤ → Bool → Cycle
+cycle_of sys s t n x to_time = cycle_by s.stage sys s.digital t n x to_time
+
+-- the second list goes on from the first
+abbrev pub IsPrefixOf : List Event → List Event → Type 0
+IsPrefixOf front whole = (rest : List Event) × (front ++ rest ≡ whole)
+
+-- the new list is the old one and a front part of the added ones
+pub record AddsFront (old new added : List Event) : Type 0 where
+  pub front : List Event
+  pub is_front : IsPrefixOf front added
+  pub new_is : new ≡ old ++ front
