@@ -1,0 +1,3 @@
+pub mod Mini
+pub mod Row
+pub mod Switch
