@@ -8,7 +8,7 @@ use Rattle.std.specs.Prelude.{unsigned_abs, int_lt}
 use Rattle.std.specs.Int.{int_div_euclid, int_rem_euclid}
 use Rattle.fix_core.specs.declared.NumFault.TheVariants.{Overflow, Domain}
 use Rattle.fix_core.specs.Fixed.{one}
-use Rattle.math_fix.specs.Functions.{series, exp_term, exp_of, multiplied_by, times_power_of_e, root, sqrt_of, IsRoot, RootIsGreatest}
+use Rattle.math_fix.specs.Functions.{series, exp_term, exp_of, multiplied_by, times_power_of_e, root, sqrt_of, RootIsGreatest}
 
 pub exp_high : (x : ℤ) → pos 30 <ℤ int_div_euclid x one → exp_of x ≡ Err Overflow
 unfolding exp_of
