@@ -10,10 +10,10 @@ use Rattle.fix_core.specs.Rounding.{rnd, nearest, signed, signs_differ}
 use Rattle.fix_core.specs.Fixed.{one}
 use Rattle.fix_core.specs.Laws.{rnd_is, nearest_high, unsigned_abs-signed}
 use Rattle.ams_value.specs.declared.fault.ValFault.{ValFault}
-use Rattle.ams_value.specs.declared.fault.ValFault.TheVariants.{Overflow, DivideByZero}
+use Rattle.ams_value.specs.declared.fault.ValFault.TheVariants.{Range, Overflow, DivideByZero}
 use Rattle.ams_value.specs.declared.val.Val.{Val}
 use Rattle.ams_value.specs.declared.val.Val.TheVariants.{Int, Time}
-use Rattle.ams_value.specs.Values.{integer_ranged, time_ranged, divided_by, time_by_real, time_over_real, integer_quotient, time_quotient, integer_modulus, integer_remainder, modulus}
+use Rattle.ams_value.specs.Values.{integer_ranged, time_ranged, divided_by, time_by_real, time_over_real, integer_quotient, time_quotient, integer_modulus, integer_remainder, modulus, integer_of}
 
 pub time_overflows : (z : ℤ) → 1000000000000000000 < unsigned_abs z → time_ranged z ≡ Err Overflow
 unfolding time_ranged
@@ -132,3 +132,13 @@ pub repeated_fits : (t i : ℤ) → unsigned_abs t ≤ 1000000000000000000 → u
 repeated_fits t i ht hi =
     let most : unsigned_abs t * unsigned_abs i ≤ 1000000000000000000 * 2147483648 = mul-le (unsigned_abs t) (unsigned_abs i) 1000000000000000000 2147483648 ht hi in
     fits_wide (t *ℤ i) (rw (unsigned_abs-mul t i) (omega (arith, most)))
+
+pub integer_is : (r q : ℤ) → q ≡ rnd r one → unsigned_abs q ≤ 2147483647 → integer_of r ≡ Ok q
+unfolding integer_of
+integer_is r q e h = let le : unsigned_abs (rnd r one) ≤ 2147483647 = rw (← e) h in rw e (grind arith)
+
+pub integer_none : (r q : ℤ) → q ≡ rnd r one → 2147483647 < unsigned_abs q → integer_of r ≡ Err Range
+unfolding integer_of
+integer_none r q e h = let lt : 2147483647 < unsigned_abs (rnd r one) = rw (← e) h in grind arith
+
+pub ruleset reals = (integer_is, integer_none, fits_wide)

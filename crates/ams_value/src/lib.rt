@@ -4,6 +4,7 @@
 mod apply;
 mod arithmetic;
 mod compare;
+mod convert;
 mod fault;
 mod logic;
 mod op;
@@ -13,6 +14,7 @@ mod val;
 mod value_type;
 
 pub use apply::{binary, unary};
+pub use convert::{integer_from_real, real_from_integer};
 pub use fault::ValFault;
 pub use logic::decided;
 pub use op::{Op1, Op2};
