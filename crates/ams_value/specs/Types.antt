@@ -1,5 +1,5 @@
 -- The types of values, and the operators' types (IEEE 1076, 9.2).
-use Rattle.std.specs.Prelude.{ℕ, ◌+◌, ◌<◌, ◌≤◌, ◌^◌, ℤ, unsigned_abs, Bool, nat_eq, nat_le, if◌then◌else◌, Option, Some, None, IsSome}
+use Rattle.std.specs.Prelude.{ℕ, ◌+◌, ◌<◌, ◌≤◌, ◌^◌, unsigned_abs, nat_eq, nat_le, if◌then◌else◌, Option, Some, None, IsSome}
 use Rattle.ams_value.specs.declared.op.Op1.{Op1}
 use Rattle.ams_value.specs.declared.op.Op1.TheVariants.{Plus, Minus, Abs, Not}
 use Rattle.ams_value.specs.declared.op.Op2.{Op2}

@@ -13,7 +13,7 @@ mod shift;
 mod val;
 mod value_type;
 
-pub use apply::{binary, unary};
+pub use apply::{binary, results_are_typed, unary};
 pub use convert::{integer_from_real, real_from_integer};
 pub use fault::ValFault;
 pub use logic::decided;
