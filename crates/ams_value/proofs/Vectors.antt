@@ -25,6 +25,8 @@ one_at n h = one_shl n 64 h
 
 pub ruleset ones = (one_at, power_pos)
 
+pub ruleset ranges = (one_at)
+
 pub and_below : (n a b : ℕ) → a < 2 ^ n → bit_and a b ≤ all_ones n
 unfolding all_ones
 and_below n a b h = let le : bit_and a b ≤ a = and_le_l a b in omega arith

@@ -10,6 +10,7 @@ mod logic;
 mod op;
 mod power;
 mod shift;
+mod table;
 mod val;
 mod value_type;
 
@@ -19,5 +20,6 @@ pub use fault::ValFault;
 pub use logic::decided;
 pub use op::{Op1, Op2};
 pub use power::real_power;
+pub use table::{binary_type, unary_type};
 pub use val::Val;
 pub use value_type::ValueType;
