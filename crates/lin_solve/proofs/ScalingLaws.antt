@@ -5,8 +5,9 @@ use Rattle.std.proofs.lemmas.Int.{ints}
 use Rattle.std.proofs.lemmas.Bool.{cases_lt}
 use Rattle.std.proofs.Math.Nat.{eq-zero-or-pos, pow-suc, mul_assoc}
 use Rattle.fix_core.specs.declared.NumFault.{NumFault}
-use Rattle.fix_core.specs.Fixed.{and_then, tenfold_of}
-use Rattle.lin_solve.specs.Elimination.{largest, coefficients, each, tenfold, scaled}
+use Rattle.fix_core.specs.Passes.{and_then, each}
+use Rattle.fix_core.specs.Fixed.{tenfold_of}
+use Rattle.lin_solve.specs.Elimination.{largest, coefficients, tenfold, scaled}
 use Rattle.lin_solve.specs.Laws.{IsScaled, TwelveTurnsAreEnough, ZeroFactorKeepsTheRow}
 use Rattle.lin_solve.proofs.Steps.{scaled_none, scaled_kept, scaled_more, minus_row-zero, ranged_is}
 

@@ -1,37 +1,25 @@
 -- Fallible passes over lists, one element at a time.
-use Rattle.std.proofs.Common.{◌≡◌, ℕ, zero, suc, ◌+◌, ◌-◌, ◌<◌, ◌≤◌, ℤ, pos, negsuc, List, [], ◌∷◌, ◌++◌, length, take, drop, set, get_or, Result, Ok, Err, ◌⊎◌, refl, sym, ap, subst, ◌∙◌, arith, append_assoc}
+use Rattle.std.proofs.Common.{◌≡◌, ℕ, zero, suc, ◌+◌, ◌-◌, ◌<◌, ◌≤◌, ℤ, pos, negsuc, List, [], ◌∷◌, ◌++◌, length, take, drop, set, get_or, Ok, Err, ◌⊎◌, inl, inr, refl, sym, ap, ◌∙◌, arith}
 use Rattle.std.proofs.lemmas.List.{drop_more, take_more_set, drop-set-lt, append-nil, take_all, drop_all, drop_at, length-take, length-drop, length-map, map-append, map-set, get_or-map, get_or-drop, get_or_default, with_items_is}
 use Rattle.std.specs.Prelude.{max, unsigned_abs, nat_eq, nat_le, ◌||◌, true, false}
 use Rattle.std.proofs.lemmas.Bool.Decides.{nat_tests}
 use Rattle.std.specs.Global.{Vec}
 use Rattle.std.specs.Vec.{with_items}
-use Rattle.lin_solve.specs.Answer.{items_of}
+use Rattle.lin_solve.specs.Entries.{items_of}
 use borrow.Rule.Slice.PartMut.{put_mid}
 use Rattle.fix_core.specs.declared.NumFault.{NumFault}
 use Rattle.fix_core.specs.declared.NumFault.TheVariants.{Overflow}
-use Rattle.fix_core.specs.Fixed.{and_then, nearest, rnd, ranged, IsInRange, tenfold_of, product_of, difference_of, quotient_of}
-use Rattle.std.specs.Prelude.{◌-ℤ◌, ◌*ℤ◌, if◌then◌else◌, Bool}
+use Rattle.fix_core.specs.Rounding.{nearest, rnd}
+use Rattle.fix_core.specs.Passes.{and_then, joined}
+use Rattle.fix_core.specs.Laws.{joined-joined, joined_none, at_place, ranged-fits, ranged-overflows, ranged_in_range, each_fails, each_end, each_start}
+use Rattle.std.proofs.lemmas.Bool.{cases_lt}
+use Rattle.fix_core.specs.Fixed.{ranged, IsInRange, tenfold_of, product_of, difference_of, quotient_of}
+use Rattle.std.specs.Prelude.{◌-ℤ◌, ◌*ℤ◌}
 use Rattle.std.specs.List.{All}
 use Rattle.std.proofs.Math.IntN.{*ℤ_comm, *ℤ-zero}
 use Rattle.std.proofs.lemmas.Int.{ints}
 use Rattle.std.proofs.lemmas.List.Elements.{All-head, All-tail}
-use Rattle.lin_solve.specs.Elimination.{coefficient, largest, place_of_largest, right_side, substituted, unknown, each, scaled, tenfold, coefficients, minus_row, reduced}
-
--- what is done, and what the rest gives
-abbrev pub joined : {A : Type 0} → List A → Result (List A) NumFault → Result (List A) NumFault
-joined xs r = and_then (λ ys. Ok (xs ++ ys)) r
-
-joined-joined : {A : Type 0} (xs : List A) (y : A) (r : Result (List A) NumFault) → joined xs (and_then (λ ys. Ok (y ∷ ys)) r) ≡ joined (xs ++ y ∷ []) r
-joined-joined xs y (Ok ys) = ap Ok (sym (append_assoc xs (y ∷ []) ys))
-joined-joined xs y (Err e) = refl
-
-joined_none : {A : Type 0} (r : Result (List A) NumFault) → joined [] r ≡ r
-joined_none (Ok ys) = refl
-joined_none (Err e) = refl
-
--- what is left of a list from a place on, by the element that was read there
-at_place : {A : Type 0} (xs : List A) (i : ℕ) (x : A) → i < length xs → x ≡ get_or xs i x → drop i xs ≡ x ∷ drop (i + 1) xs
-at_place xs i x h e = drop_more xs i x h ∙ ap (λ y. y ∷ drop (i + 1) xs) (sym e)
+use Rattle.lin_solve.specs.Elimination.{coefficient, largest, place_of_largest, right_side, substituted, unknown, scaled, tenfold, coefficients, minus_row, reduced}
 
 pub minus_row_more : (f : ℤ) (ps xs : List ℤ) (i : ℕ) (p x c b : ℤ) → i < length ps → i < length xs → p ≡ get_or ps i p → x ≡ get_or xs i x → product_of f p ≡ Ok c → difference_of x c ≡ Ok b → joined (take i xs) (minus_row f (drop i ps) (drop i xs)) ≡ joined (take (i + 1) (set xs i b)) (minus_row f (drop (i + 1) ps) (drop (i + 1) (set xs i b)))
 unfolding minus_row
@@ -77,16 +65,12 @@ nothing_lost : (p : ℤ) → product_of (pos 0) p ≡ Ok (pos 0)
 unfolding product_of ranged rnd nearest
 nothing_lost p = rw (*ℤ_comm (pos 0) p, *ℤ-zero p) refl
 
-fits : (z : ℤ) → IsInRange z → ranged z ≡ Ok z
-unfolding ranged
-fits z h = grind arith
-
 minus_zero : (a : ℤ) → a -ℤ pos 0 ≡ a
 minus_zero a = omega (arith, ints)
 
 kept_where_in_range : (a : ℤ) → IsInRange a → difference_of a (pos 0) ≡ Ok a
 unfolding difference_of
-kept_where_in_range a h = rw (minus_zero a) (fits a h)
+kept_where_in_range a h = rw (minus_zero a) (ranged-fits a h)
 
 -- a row whose factor is 0 stays as it is
 pub minus_row-zero : (ps row : List ℤ) → length ps ≡ length row → All IsInRange row → minus_row (pos 0) ps row ≡ Ok row
@@ -97,29 +81,13 @@ minus_row-zero (p ∷ ps) (a ∷ row) e all =
     let more : minus_row (pos 0) ps row ≡ Ok row = minus_row-zero ps row (omega arith) (All-tail IsInRange a row all) in
     rw (nothing_lost p, kept_where_in_range a (All-head IsInRange a row all), more) refl
 
-within_test : (b : Bool) (z d : ℤ) → (if b then Ok z else Err Overflow) ≡ Ok d → (b ≡ true) × (z ≡ d)
-within_test true z d e = (refl, cc)
-within_test false z d e = cc
-
--- an answer that is a number is in range
-ranged-within : (z d : ℤ) → ranged z ≡ Ok d → IsInRange d
-unfolding ranged
-ranged-within z d e =
-    let p = within_test (nat_le (unsigned_abs z) 1000000000000000000000000) z d e in
-    let h : unsigned_abs z ≤ 1000000000000000000000000 = grind (arith, nat_tests, p.0) in
-    subst IsInRange p.1 h
-
 pub ranged_is : (z d : ℤ) → ranged z ≡ Ok d → z ≡ d
-unfolding ranged
-ranged_is z d e = (within_test (nat_le (unsigned_abs z) 1000000000000000000000000) z d e).1
-
-pub difference-within : (a b d : ℤ) → difference_of a b ≡ Ok d → IsInRange d
-unfolding difference_of
-difference-within a b d e = ranged-within (a -ℤ b) d e
+ranged_is z d e =
+    elim (cases_lt 1000000000000000000000000 (unsigned_abs z)) [ inl past ↦ let f : ranged z ≡ Err Overflow = ranged-overflows z past in cc | inr fits ↦ let f : ranged z ≡ Ok z = ranged-fits z fits in cc ]
 
 pub tenfold-within : (a d : ℤ) → tenfold_of a ≡ Ok d → IsInRange d
 unfolding tenfold_of
-tenfold-within a d e = ranged-within (a *ℤ pos 10) d e
+tenfold-within a d e = ranged_in_range (a *ℤ pos 10) d e
 
 pub ruleset reductions = (reduced_no_factor, reduced_is)
 
@@ -208,22 +176,6 @@ substituted_end s cs xs i h = rw (drop_all i xs h) (substituted_nil s (drop i cs
 pub ruleset substitutions = (substituted_end, substituted_no_product, substituted_no_difference)
 
 -- ---- scaling
-
-pub each_more : {A : Type 0} (f : A → Result A NumFault) (xs : List A) (i : ℕ) (x y : A) → i < length xs → x ≡ get_or xs i x → f x ≡ Ok y → joined (take i xs) (each f (drop i xs)) ≡ joined (take (i + 1) (set xs i y)) (each f (drop (i + 1) (set xs i y)))
-unfolding each
-each_more f xs i x y h r e =
-    rw (at_place xs i x h r, e, take_more_set xs i y h, drop-set-lt (i + 1) xs i y (omega arith)) (joined-joined (take i xs) y (each f (drop (i + 1) xs)))
-
-pub each_fails : {A : Type 0} (f : A → Result A NumFault) (xs : List A) (i : ℕ) (x : A) (e : NumFault) → i < length xs → x ≡ get_or xs i x → f x ≡ Err e → joined (take i xs) (each f (drop i xs)) ≡ Err e
-unfolding each
-each_fails f xs i x e h r q = rw (at_place xs i x h r, q) refl
-
-pub each_end : {A : Type 0} (f : A → Result A NumFault) (xs : List A) (i : ℕ) → length xs ≤ i → joined (take i xs) (each f (drop i xs)) ≡ Ok xs
-unfolding each
-each_end f xs i h = rw (drop_all i xs h, take_all i xs h, append-nil xs) refl
-
-pub each_start : {A : Type 0} (f : A → Result A NumFault) (xs : List A) → joined (take 0 xs) (each f (drop 0 xs)) ≡ each f xs
-each_start f xs = joined_none (each f xs)
 
 pub largest_rest : (xs : List ℤ) (i : ℕ) (x : ℤ) → i < length xs → x ≡ get_or xs i x → largest (drop i xs) ≡ max (unsigned_abs x) (largest (drop (i + 1) xs))
 largest_rest xs i x h r = rw (at_place xs i x h r) (largest_more x (drop (i + 1) xs))

@@ -8,7 +8,7 @@ use Rattle.std.specs.Global.{Vec}
 use Rattle.fix_core.specs.declared.NumFault.{NumFault}
 use Rattle.lin_solve.specs.declared.LinFault.{LinFault}
 use Rattle.lin_solve.specs.declared.LinFault.TheVariants.{Singular, Overflow}
-use Rattle.lin_solve.specs.Answer.{items_of, IsRow}
+use Rattle.lin_solve.specs.Entries.{items_of, IsRow}
 use Rattle.lin_solve.specs.Elimination.{coefficient, pivot_place, reduced_all, unknown, by_pivot, unknowns, scaled_all, solution_of}
 
 -- ---- one column, from what its parts gave

@@ -2,7 +2,8 @@
 use Rattle.std.specs.Prelude.{ℕ, zero, suc, ◌+◌, ◌-◌, max, ℤ, pos, unsigned_abs, nat_eq, nat_le, nat_lt, ◌||◌, if◌then◌else◌, List, [], ◌∷◌, length, take, drop, map, slice_index_or, Result, Ok, Err}
 use Rattle.std.specs.List.{swap}
 use Rattle.fix_core.specs.declared.NumFault.{NumFault}
-use Rattle.fix_core.specs.Fixed.{tenfold_of, and_then, difference_of, product_of, quotient_of}
+use Rattle.fix_core.specs.Fixed.{tenfold_of, difference_of, product_of, quotient_of}
+use Rattle.fix_core.specs.Passes.{and_then, each}
 use Rattle.lin_solve.specs.declared.LinFault.{LinFault}
 use Rattle.lin_solve.specs.declared.LinFault.TheVariants.{Singular, Overflow}
 
@@ -26,11 +27,6 @@ place_of_largest [] = 0
 place_of_largest (a ∷ more) = if nat_lt (unsigned_abs a) (largest more) then suc (place_of_largest more) else 0
 
 -- ---- scaling
-
--- a pass over a list, in which any element may fail
-unfoldable pub each : {A : Type 0} → (A → Result A NumFault) → List A → Result (List A) NumFault
-each f [] = Ok []
-each f (a ∷ more) = and_then (λ b. and_then (λ bs. Ok (b ∷ bs)) (each f more)) (f a)
 
 -- each number times ten
 abbrev pub tenfold : List ℤ → Result (List ℤ) NumFault
@@ -82,10 +78,6 @@ unknown column row xs = and_then (λ s. quotient_of s (coefficient column row)) 
 
 -- ---- the whole
 
-abbrev pub chain : {A B : Type 0} → (A → Result B LinFault) → Result A LinFault → Result B LinFault
-chain f (Ok a) = f a
-chain f (Err e) = Err e
-
 -- any fault of a number on the way
 abbrev pub or_overflow : {A : Type 0} → Result A NumFault → Result A LinFault
 or_overflow (Ok a) = Ok a
@@ -96,7 +88,7 @@ abbrev pub by_pivot : ℕ → (List (List ℤ) → Result (List ℤ) LinFault) �
 by_pivot column others [] = Ok []
 by_pivot column others (pivot ∷ rows) =
     if nat_eq (unsigned_abs (coefficient column pivot)) 0 then Err (Singular column) else
-    chain (λ xs. chain (λ x. Ok (x ∷ xs)) (or_overflow (unknown column pivot xs))) (chain others (or_overflow (reduced_all column pivot rows)))
+    and_then (λ xs. and_then (λ x. Ok (x ∷ xs)) (or_overflow (unknown column pivot xs))) (and_then others (or_overflow (reduced_all column pivot rows)))
 
 -- the unknowns from a column on, of the n rows that no earlier column has used: the pivot row is swapped into the first place
 unfoldable pub unknowns : ℕ → ℕ → List (List ℤ) → Result (List ℤ) LinFault
@@ -104,4 +96,4 @@ unknowns zero column rows = Ok []
 unknowns (suc n) column rows = by_pivot column (unknowns n (column + 1)) (swap rows 0 (pivot_place column rows))
 
 unfoldable pub solution_of : List (List ℤ) → Result (List ℤ) LinFault
-solution_of rows = chain (unknowns (length rows) 0) (or_overflow (scaled_all rows))
+solution_of rows = and_then (unknowns (length rows) 0) (or_overflow (scaled_all rows))

@@ -1,5 +1,5 @@
-pub mod Answer
 pub mod Codes
 pub mod Elimination
+pub mod Entries
 pub mod Laws
 pub mod System

@@ -1,7 +1,7 @@
 -- The system that `Rows` holds.
 use Rattle.std.specs.Prelude.{◌≡◌, ◌+◌, ◌<◌, ℤ, List, length}
 use Rattle.std.specs.List.{All}
-use Rattle.lin_solve.specs.Answer.{items_of, IsRow}
+use Rattle.lin_solve.specs.Entries.{items_of, IsRow}
 use Rattle.lin_solve.specs.declared.Rows.TheInside.{Inside}
 
 abbrev pub rows_of : Inside → List (List ℤ)

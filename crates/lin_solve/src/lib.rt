@@ -7,7 +7,8 @@ ghost use Rattle.fix_core.specs.Fixed.{IsInRange};
 ghost use Rattle.lin_solve.specs.Elimination.{coefficient, minus_row as minus_row_of, reduced, reduced_all, unknown as unknown_of, pivot_place as pivot_place_of, unknowns as unknowns_of, largest as largest_of, tenfold as tenfold_of, scaled, scaled_all, solution_of};
 ghost use Rattle.lin_solve.specs.Laws.{TwelveTurnsAreEnough, ZeroFactorKeepsTheRow};
 ghost use Rattle.lin_solve.specs.Codes.{code_of};
-ghost use Rattle.lin_solve.specs.Answer.{answer, items_of, IsRow};
+ghost use Rattle.fix_core.specs.Passes.{answer};
+ghost use Rattle.lin_solve.specs.Entries.{items_of, IsRow};
 
 use ams_point::Point;
 use fix_core::{Fix, NumFault};

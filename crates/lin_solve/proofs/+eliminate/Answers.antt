@@ -3,7 +3,7 @@ use Rattle.std.proofs.Common.{◌≡◌, ◌+◌, ◌<◌, ℕ, [], length, drop
 use Rattle.std.proofs.lemmas.List.{drop_all, drop-set, take_rest}
 use Rattle.std.proofs.lemmas.Result.{err_from_is_err_and}
 use Rattle.std.specs.Prelude.{unsigned_abs}
-use Rattle.lin_solve.specs.Answer.{items_of}
+use Rattle.lin_solve.specs.Entries.{items_of}
 use Rattle.lin_solve.specs.Elimination.{coefficient, unknowns}
 use Rattle.lin_solve.proofs.Steps.{coefficient_is, zero_size}
 use Rattle.lin_solve.proofs.Whole.{start, pivot_row, other_rows, by_zero, by_no_reduction, by_fault, by_no_unknown, by_unknowns, unknowns_none}

@@ -3,7 +3,7 @@ use Rattle.std.proofs.Common.{◌≡◌, ◌<◌, ℤ, length, ap, ◌∙◌, ar
 use Rattle.std.proofs.lemmas.List.{length-map}
 use Rattle.std.specs.Global.{Vec}
 use Rattle.std.specs.List.{swap}
-use Rattle.lin_solve.specs.Answer.{items_of, IsRow}
+use Rattle.lin_solve.specs.Entries.{items_of, IsRow}
 use Rattle.lin_solve.proofs.Whole.{map-swap, All-swap}
 use Rattle.lin_solve.proofs.choose_pivot.Goals as goal
 

@@ -2,7 +2,7 @@
 use Rattle.std.proofs.Common.{◌+◌, ◌<◌, ℤ, [], length, ap, ◌∙◌, sym, arith}
 use Rattle.std.proofs.lemmas.List.{length-map}
 use Rattle.std.specs.Global.{Vec}
-use Rattle.lin_solve.specs.Answer.{items_of}
+use Rattle.lin_solve.specs.Entries.{items_of}
 use Rattle.lin_solve.proofs.Steps.{item_at}
 use Rattle.lin_solve.proofs.entry.Goals as goal
 

@@ -2,7 +2,7 @@ use Rattle.std.proofs.Common.{◌≡◌, take, drop}
 use Rattle.std.specs.List.{All}
 use Rattle.fix_core.specs.Fixed.{IsInRange}
 use Rattle.lin_solve.specs.Elimination.{minus_row}
-use Rattle.lin_solve.proofs.Steps.{joined}
+use Rattle.fix_core.specs.Passes.{joined}
 use Rattle.lin_solve.proofs.minus_row.Given as goal
 
 abbrev pub invariant-loop-i : goal.invariant-loop-i

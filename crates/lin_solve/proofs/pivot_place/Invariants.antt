@@ -1,5 +1,5 @@
 use Rattle.std.proofs.Common.{◌≡◌, ◌+◌, ◌<◌, ◌≤◌, length, drop, map}
-use Rattle.lin_solve.specs.Answer.{items_of}
+use Rattle.lin_solve.specs.Entries.{items_of}
 use Rattle.lin_solve.specs.Elimination.{coefficient, largest, place_of_largest}
 use Rattle.lin_solve.proofs.pivot_place.Given as goal
 

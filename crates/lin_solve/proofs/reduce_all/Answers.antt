@@ -5,9 +5,10 @@ use Rattle.std.proofs.lemmas.Result.{err_from_is_err_and}
 use Rattle.std.proofs.lemmas.List.Elements.{All-set}
 use Rattle.std.specs.Global.{Vec}
 use Rattle.std.specs.Vec.{with_items}
-use Rattle.lin_solve.specs.Answer.{items_of, IsRow}
+use Rattle.lin_solve.specs.Entries.{items_of, IsRow}
 use Rattle.lin_solve.specs.Elimination.{reduced}
-use Rattle.lin_solve.proofs.Steps.{item_at, items_set, each_more, each_fails, each_end}
+use Rattle.fix_core.specs.Laws.{each_more, each_fails, each_end}
+use Rattle.lin_solve.proofs.Steps.{item_at, items_set}
 use Rattle.lin_solve.proofs.reduce_all.Goals as goal
 
 pub reduce-requires-clause-lengths : goal.reduce-requires-clause-lengths

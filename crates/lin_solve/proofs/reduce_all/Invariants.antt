@@ -1,8 +1,9 @@
 use Rattle.std.proofs.Common.{◌≡◌, length, take, drop}
 use Rattle.std.specs.List.{All}
-use Rattle.lin_solve.specs.Answer.{items_of, IsRow}
-use Rattle.lin_solve.specs.Elimination.{each, reduced, reduced_all}
-use Rattle.lin_solve.proofs.Steps.{joined}
+use Rattle.lin_solve.specs.Entries.{items_of, IsRow}
+use Rattle.fix_core.specs.Passes.{each}
+use Rattle.lin_solve.specs.Elimination.{reduced, reduced_all}
+use Rattle.fix_core.specs.Passes.{joined}
 use Rattle.lin_solve.proofs.reduce_all.Given as goal
 
 abbrev pub invariant-loop-i : goal.invariant-loop-i

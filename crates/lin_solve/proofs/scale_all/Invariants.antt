@@ -1,8 +1,9 @@
 use Rattle.std.proofs.Common.{◌≡◌, take, drop}
 use Rattle.std.specs.List.{All}
-use Rattle.lin_solve.specs.Answer.{items_of, IsRow}
-use Rattle.lin_solve.specs.Elimination.{each, scaled, scaled_all}
-use Rattle.lin_solve.proofs.Steps.{joined}
+use Rattle.lin_solve.specs.Entries.{items_of, IsRow}
+use Rattle.fix_core.specs.Passes.{each}
+use Rattle.lin_solve.specs.Elimination.{scaled, scaled_all}
+use Rattle.fix_core.specs.Passes.{joined}
 use Rattle.lin_solve.proofs.scale_all.Given as goal
 
 abbrev pub invariant-loop-i : goal.invariant-loop-i

@@ -4,7 +4,7 @@ use Rattle.std.proofs.lemmas.List.{length-map}
 use Rattle.std.specs.Global.{Vec}
 use Rattle.std.proofs.lemmas.List.Elements.{All-set}
 use Rattle.fix_core.specs.Fixed.{IsInRange}
-use Rattle.lin_solve.specs.Answer.{items_of, IsRow}
+use Rattle.lin_solve.specs.Entries.{items_of, IsRow}
 use Rattle.lin_solve.proofs.Steps.{item_at, items_set}
 use Rattle.lin_solve.proofs.set_entry.Goals as goal
 

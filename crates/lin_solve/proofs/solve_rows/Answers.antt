@@ -1,7 +1,7 @@
 -- What scaling and elimination gave, joined.
 use Rattle.std.proofs.Common.{◌≡◌, length, ◌∙◌, sym}
 use Rattle.std.proofs.lemmas.List.{length-map}
-use Rattle.lin_solve.specs.Answer.{items_of}
+use Rattle.lin_solve.specs.Entries.{items_of}
 use Rattle.lin_solve.proofs.Whole.{solution_fails, solution_is}
 use Rattle.lin_solve.proofs.solve_rows.Goals as goal
 

@@ -2,7 +2,8 @@
 use Rattle.std.proofs.Common.{◌<◌, length, ◌∙◌, sym, arith}
 use Rattle.std.proofs.lemmas.List.Elements.{All-set}
 use Rattle.fix_core.specs.Fixed.{IsInRange, tenfold_of}
-use Rattle.lin_solve.proofs.Steps.{each_more, tenfold-within}
+use Rattle.fix_core.specs.Laws.{each_more}
+use Rattle.lin_solve.proofs.Steps.{tenfold-within}
 use Rattle.lin_solve.proofs.tenfold.Goals as goal
 
 pub loop-i-preserved : goal.loop-i-preserved

@@ -1,8 +1,9 @@
 use Rattle.std.proofs.Common.{◌≡◌, take, drop}
 use Rattle.std.specs.List.{All}
 use Rattle.fix_core.specs.Fixed.{IsInRange, tenfold_of}
-use Rattle.lin_solve.specs.Elimination.{each, tenfold}
-use Rattle.lin_solve.proofs.Steps.{joined}
+use Rattle.fix_core.specs.Passes.{each}
+use Rattle.lin_solve.specs.Elimination.{tenfold}
+use Rattle.fix_core.specs.Passes.{joined}
 use Rattle.lin_solve.proofs.tenfold.Given as goal
 
 abbrev pub invariant-loop-i : goal.invariant-loop-i

@@ -1,13 +1,8 @@
--- Words of the contracts.
-use Rattle.std.specs.Prelude.{◌≡◌, ℕ, ℤ, List, length, map, Result, Ok, Err}
+-- Rows as the code has them.
+use Rattle.std.specs.Prelude.{◌≡◌, ℕ, ℤ, List, length, map}
 use Rattle.std.specs.List.{All}
 use Rattle.std.specs.Global.{Vec}
 use Rattle.fix_core.specs.Fixed.{IsInRange}
-
--- what a call that writes has answered: what is written, where it gives no fault
-abbrev pub answer : {A E : Type 0} → Result (Unit {0}) E → A → Result A E
-answer (Ok u) a = Ok a
-answer (Err e) a = Err e
 
 -- rows as lists
 abbrev pub items_of : List (Vec ℤ) → List (List ℤ)
