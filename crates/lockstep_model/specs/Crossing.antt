@@ -1,5 +1,5 @@
 -- Where a threshold is crossed (own).
-use Rattle.std.specs.Prelude.{Bool, false, not, ◌||◌, ℕ, zero, suc, ◌+◌, ◌-◌, ◌/◌, nat_le, if◌then◌else◌, ℤ, pos, int_lt, List, [], ◌∷◌, slice_index_or, Result, Ok, Err}
+use Rattle.std.specs.Prelude.{Bool, true, false, not, ◌||◌, ℕ, zero, suc, ◌+◌, ◌-◌, ◌/◌, nat_le, if◌then◌else◌, ℤ, pos, int_lt, List, [], ◌∷◌, slice_index_or, Result, Ok, Err}
 use Rattle.step_data.specs.declared.breaks.Above.{Above}
 use Rattle.step_data.specs.declared.outcome.Cause.{Cause}
 use Rattle.step_data.specs.Same.{same_bool}
@@ -40,7 +40,11 @@ narrowed aboves b (Ok l) = if differs l.x aboves then lower_half b l.x else uppe
 
 -- The bounds of a crossing once they are near enough, by the steps to a time. Each turn takes one step, and no more
 -- turns are made than are left.
+abbrev pub located_by : Bool → (Bounds → Bounds) → Bounds → Bounds
+located_by true further b = b
+located_by false further b = further b
+
 unfoldable pub located : ℕ → (ℕ → Result Landing Cause) → List Above → ℕ → Bounds → Bounds
 located xres step aboves zero b = b
 located xres step aboves (suc n) b =
-    if is_near xres b then b else located xres step aboves n (narrowed aboves b (step (middle b)))
+    located_by (is_near xres b) (λ c. located xres step aboves n (narrowed aboves c (step (middle c)))) b

@@ -7,7 +7,7 @@ use Rattle.step_data.specs.declared.outcome.Cause.{Cause}
 use Rattle.step_model.specs.System.{System, Landing}
 use Rattle.lockstep_model.specs.Works.{Run, Work, Worked, before, followed_by}
 use Rattle.lockstep_model.specs.Works as kinds
-use Rattle.lockstep_model.specs.Crossing.{Bounds, is_near, differs, narrowed, middle, lower_half, upper_half, located}
+use Rattle.lockstep_model.specs.Crossing.{Bounds, is_near, differs, narrowed, middle, lower_half, upper_half, located, located_by}
 use Rattle.lockstep_model.specs.Lockstep as l
 use Rattle.lockstep_model.specs.Lockstep.{Place, locate}
 
@@ -47,7 +47,7 @@ unfolding located
 located_within xres step aboves zero b fine order = record { lower = omega arith; order = order; upper = omega arith }
 located_within xres step aboves (suc n) b fine order =
     elim (is_near xres b) as
-    (λ t. is_near xres b ≡ t → LiesWithin b (cond t b (located xres step aboves n (narrowed aboves b (step (middle b)))))) [
+    (λ t. is_near xres b ≡ t → LiesWithin b (located_by t (λ c. located xres step aboves n (narrowed aboves c (step (middle c)))) b)) [
       | true ↦ λ near. record { lower = omega arith; order = order; upper = omega arith }
       | false ↦
           λ far.
@@ -74,18 +74,22 @@ crosses-before : (sys : System) (cross : ℕ → Place → Run) (p : Place) (b :
 crosses-before sys cross p b w r h =
     record { probes = w ∷ h.probes; tries = h.tries; run_is = ap (before w) h.run_is }
 
+-- the answer of the search behind a probe
+abbrev searched_on : System → Place → ℕ → Bounds → Bounds
+searched_on sys p n c = search sys p n (narrowed (l.aboves_at sys p) c (step_to sys p (middle c)))
+
 -- where the tries suffice, the run crosses at the answer of the search
 pub locate_crosses : (sys : System) (cross : ℕ → Place → Run) (n : ℕ) (p : Place) (b : Bounds) → is_near sys.options.xres (search sys p n b) ≡ true → CrossesAt sys cross p (search sys p n b) (locate sys cross n p b)
 unfolding locate located
 locate_crosses sys cross zero p b =
     elim (is_near sys.options.xres b) as
-    (λ t. t ≡ true → CrossesAt sys cross p b (cond t (cross zero (l.stepped_to sys p b.hi b.x)) (l.too_many_tries p))) [
+    (λ t. t ≡ true → CrossesAt sys cross p b (l.searched t sys (cross zero) (λ b'. l.too_many_tries p) p b)) [
       | true ↦ λ e. record { probes = []; tries = zero; run_is = refl }
       | false ↦ λ e. cc
     ]
 locate_crosses sys cross (suc n) p b =
     elim (is_near sys.options.xres b) as
-    (λ t. is_near sys.options.xres (cond t b (search sys p n (l.probed sys p b))) ≡ true → CrossesAt sys cross p (cond t b (search sys p n (l.probed sys p b))) (cond t (cross (suc n) (l.stepped_to sys p b.hi b.x)) (before (Worked kinds.Probe (l.bound_events sys p (l.probed sys p b)) false (l.standing sys p)) (locate sys cross n p (l.probed sys p b))))) [
+    (λ t. is_near sys.options.xres (located_by t (searched_on sys p n) b) ≡ true → CrossesAt sys cross p (located_by t (searched_on sys p n) b) (l.searched t sys (cross (suc n)) (l.probe_run sys p (locate sys cross n p)) p b)) [
       | true ↦ λ e. record { probes = []; tries = suc n; run_is = refl }
       | false ↦
           λ e.

@@ -110,12 +110,16 @@ abbrev pub branches_or : List ℕ → Result (List ℕ) Cause → List ℕ
 branches_or olds (Ok branches) = branches
 branches_or olds (Err c) = olds
 
--- each choice whose branch is another one than at the point before
+-- a choice's new branch, unless it is the old one
+abbrev pub branch_event : Bool → ℕ → ℕ → ℕ → ℕ → List Event
+branch_event true t n k b = []
+branch_event false t n k b = Branch t n k b ∷ []
+
+-- each choice whose branch is another one than at the point before; every choice before the first point
 unfoldable pub branch_events : ℕ → ℕ → ℕ → List ℕ → List ℕ → List Event
 branch_events t n k [] olds = []
 branch_events t n k (b ∷ bs) [] = Branch t n k b ∷ branch_events t n (k + 1) bs []
-branch_events t n k (b ∷ bs) (old ∷ olds) =
-    if b == old then branch_events t n (k + 1) bs olds else Branch t n k b ∷ branch_events t n (k + 1) bs olds
+branch_events t n k (b ∷ bs) (old ∷ olds) = branch_event (b == old) t n k b ++ branch_events t n (k + 1) bs olds
 
 -- a point, and before it the branches that changed
 abbrev pub point_events : ℕ → ℕ → List ℤ → List ℕ → List ℕ → List Event
@@ -197,11 +201,13 @@ cycled_run sys rest to_time p (rans.Refused refusal) =
 abbrev pub cycle_run : System → (Place → Run) → Bool → Place → Run
 cycle_run sys rest to_time p = cycled_run sys rest to_time p (cycle_at sys to_time p).ran
 
--- a delta: the solution that it needs, and the cycle
+-- a delta: the solution where it needs one, and the cycle
+abbrev pub delta_by : Bool → System → (Place → Run) → Place → Run
+delta_by true sys cycle p = solved_run sys cycle p (solution sys p)
+delta_by false sys cycle p = cycle p
+
 abbrev pub delta_run : System → (Place → Run) → Bool → Place → Run
-delta_run sys rest to_time p =
-    if needs_solution sys p then solved_run sys (cycle_run sys rest to_time) p (solution sys p)
-    else cycle_run sys rest to_time p
+delta_run sys rest to_time p = delta_by (needs_solution sys p) sys (cycle_run sys rest to_time) p
 
 -- Steps up to the next time. The branches of a step are those of its tip.
 abbrev pub step_branches : System → Place → List ℕ
@@ -228,13 +234,21 @@ probed sys p b =
 abbrev pub crossing_bounds : Place → ℕ → List ℤ → Bounds
 crossing_bounds p t x = record { lo = max p.time p.tip.t; hi = t; x = x }
 
--- the search of a crossing between its bounds, and the cycle there
+-- the run crosses where the bounds are near enough, else the search goes on
+abbrev pub searched : Bool → System → (Place → Run) → (Bounds → Run) → Place → Bounds → Run
+searched true sys cross further p b = cross (stepped_to sys p b.hi b.x)
+searched false sys cross further p b = further b
+
+abbrev pub probe_run : System → Place → (Bounds → Run) → Bounds → Run
+probe_run sys p further b =
+    before (Worked kinds.Probe (bound_events sys p (probed sys p b)) false (standing sys p)) (further (probed sys p b))
+
+-- The search of a crossing between its bounds, and the cycle there. No more tries than are left.
 unfoldable pub locate : System → (ℕ → Place → Run) → ℕ → Place → Bounds → Run
 locate sys cross zero p b =
-    if is_near sys.options.xres b then cross zero (stepped_to sys p b.hi b.x) else too_many_tries p
+    searched (is_near sys.options.xres b) sys (cross zero) (λ b'. too_many_tries p) p b
 locate sys cross (suc n) p b =
-    if is_near sys.options.xres b then cross (suc n) (stepped_to sys p b.hi b.x)
-    else before (Worked kinds.Probe (bound_events sys p (probed sys p b)) false (standing sys p)) (locate sys cross n p (probed sys p b))
+    searched (is_near sys.options.xres b) sys (cross (suc n)) (probe_run sys p (locate sys cross n p)) p b
 
 abbrev pub attempt_at : System → Place → Attempt
 attempt_at sys p = attempt sys (frame_at sys p) p.tip
@@ -265,14 +279,15 @@ abbrev pub behind : System → Place → Attempt → Place
 behind sys p a =
     record p { tip = next p.tip a; branches = if gives_point p a then step_branches sys p else p.branches }
 
--- an attempt, and what follows a crossing or one that neither crossed nor failed
-abbrev pub tried : System → Place → (Bounds → Run) → (Place → Run) → Attempt → Run
-tried sys p crossing later a =
-    before (attempt_work sys p a) (
-    if is_crossing sys p a then crossing (attempt_bounds p a)
-    else if is_failed a.kind then step_too_small a.end a.cause
-    else later (behind sys p a)
-    )
+-- what follows an attempt: the search of its crossing, the end where it failed, else what is behind it
+abbrev pub after_attempt : Bool → Bool → System → (Bounds → Run) → (Place → Run) → Place → Attempt → Run
+after_attempt true failed sys crossing later p a = crossing (attempt_bounds p a)
+after_attempt false true sys crossing later p a = step_too_small a.end a.cause
+after_attempt false false sys crossing later p a = later (behind sys p a)
+
+abbrev pub tried : System → (Bounds → Run) → (Place → Run) → Place → Attempt → Run
+tried sys crossing later p a =
+    before (attempt_work sys p a) (after_attempt (is_crossing sys p a) (is_failed a.kind) sys crossing later p a)
 
 abbrev pub side_step : System → Place → ℕ
 side_step sys p = until sys p - p.tip.t
@@ -295,42 +310,85 @@ side_arrived sys p l = stepped_to sys p (until sys p) l.x
 abbrev pub side_bounds : System → Place → Landing → Bounds
 side_bounds sys p l = crossing_bounds p (until sys p) l.x
 
--- a side step, and what follows a crossing, one that was refused and whose half isn't too small, or an arrival
-abbrev pub sided : System → Place → (Bounds → Run) → (Place → Run) → (Place → Run) → Result Landing Cause → Run
-sided sys p crossing refused arrive (Err c) =
-    if nat_lt (side_step sys p / 2) sys.options.hmin
-    then before (Worked kinds.Side [] false (standing sys p)) (step_too_small (until sys p) c)
-    else before (Worked kinds.Side [] true (standing sys (side_refused sys p))) (refused (side_refused sys p))
-sided sys p crossing refused arrive (Ok l) =
-    if differs l.x (aboves_at sys p)
-    then before (Worked kinds.Side (bound_events sys p (side_bounds sys p l)) false (standing sys p)) (crossing (side_bounds sys p l))
-    else before (Worked kinds.Side (point_events (until sys p) 0 l.x (step_branches sys p) p.branches) false (standing sys (side_arrived sys p l))) (arrive (side_arrived sys p l))
+-- a side step that was refused, which ends the run where its half is too small
+abbrev pub refused_side : Bool → System → (Place → Run) → Place → Cause → Run
+refused_side true sys refused p c =
+    before (Worked kinds.Side [] false (standing sys p)) (step_too_small (until sys p) c)
+refused_side false sys refused p c =
+    before (Worked kinds.Side [] true (standing sys (side_refused sys p))) (refused (side_refused sys p))
+
+-- one that was accepted: a crossing, or an arrival
+abbrev pub accepted_side : Bool → System → (Bounds → Run) → (Place → Run) → Place → Landing → Run
+accepted_side true sys crossing arrive p l =
+    before (Worked kinds.Side (bound_events sys p (side_bounds sys p l)) false (standing sys p)) (crossing (side_bounds sys p l))
+accepted_side false sys crossing arrive p l =
+    before (Worked kinds.Side (point_events (until sys p) 0 l.x (step_branches sys p) p.branches) false (standing sys (side_arrived sys p l))) (arrive (side_arrived sys p l))
+
+abbrev pub is_too_small : System → Place → Bool
+is_too_small sys p = nat_lt (side_step sys p / 2) sys.options.hmin
+
+abbrev pub sided : System → (Bounds → Run) → (Place → Run) → (Place → Run) → Place → Result Landing Cause → Run
+sided sys crossing refused arrive p (Err c) = refused_side (is_too_small sys p) sys refused p c
+sided sys crossing refused arrive p (Ok l) = accepted_side (differs l.x (aboves_at sys p)) sys crossing arrive p l
+
+-- what comes in a phase: the arrival where the tip is there, an attempt that ends in time, or a side step
+abbrev pub phase_by : Bool → Bool → System → (Place → Run) → (Place → Run) → (Place → Run) → Place → Run
+phase_by true fits sys arrive attempt side p = arrive (at_tip sys p)
+phase_by false true sys arrive attempt side p = attempt p
+phase_by false false sys arrive attempt side p = side p
+
+abbrev pub is_there : System → Place → Bool
+is_there sys p = p.tip.t == until sys p
+
+abbrev pub ends_in_time : System → Place → Bool
+ends_in_time sys p = nat_le (end_of p.tip) (until sys p)
 
 -- Attempts up to the next time, with a side step where none ends there. `cross` is what comes at a crossing, `arrive`
 -- at the next time. No more tries than are left.
 unfoldable pub phase : System → (ℕ → Place → Run) → (ℕ → Place → Run) → ℕ → Place → Run
-phase sys cross arrive zero p = if p.tip.t == until sys p then arrive zero (at_tip sys p) else too_many_tries p
+phase sys cross arrive zero p =
+    phase_by (is_there sys p) (ends_in_time sys p) sys (arrive zero) too_many_tries too_many_tries p
 phase sys cross arrive (suc n) p =
-    if p.tip.t == until sys p then arrive (suc n) (at_tip sys p)
-    else if nat_le (end_of p.tip) (until sys p)
-    then tried sys p (locate sys cross n p) (phase sys cross arrive n) (attempt_at sys p)
-    else sided sys p (locate sys cross n p) (phase sys cross arrive n) (arrive n) (side_at sys p)
+    phase_by (is_there sys p) (ends_in_time sys p) sys (arrive (suc n))
+    (λ q. tried sys (locate sys cross n q) (phase sys cross arrive n) q (attempt_at sys q))
+    (λ q. sided sys (locate sys cross n q) (phase sys cross arrive n) (arrive n) q (side_at sys q)) p
 
 -- a cycle where digital work stands, else the end
+abbrev pub at_time_by : Bool → (Place → Run) → Place → Run
+at_time_by true cycle p = cycle p
+at_time_by false cycle p = over (Reached p.time)
+
 abbrev pub at_time : System → (ℕ → Place → Run) → ℕ → Place → Run
-at_time sys cycle n p = if stands (sys.next_time p.digital) p.time then cycle n p else over (Reached p.time)
+at_time sys cycle n p = at_time_by (stands (sys.next_time p.digital) p.time) (cycle n) p
 
--- the next delta at the same time
+-- the next delta at the same time, unless there were too many
+abbrev pub deeper : Place → Place
+deeper p = record p { delta = p.delta + 1 }
+
+abbrev pub next_delta_by : Bool → (Place → Run) → Place → Run
+next_delta_by true begin p = too_many_deltas p
+next_delta_by false begin p = begin (deeper p)
+
 abbrev pub next_delta : System → (ℕ → Bool → Place → Run) → ℕ → Bool → Place → Run
-next_delta sys begin n to_time p =
-    if nat_le sys.deltas p.delta then too_many_deltas p else begin n to_time (record p { delta = p.delta + 1 })
+next_delta sys begin n to_time p = next_delta_by (nat_le sys.deltas p.delta) (begin n to_time) p
 
--- A cycle where one is due; in QUIESCENT_DOMAIN without one the change of DOMAIN; else the phase up to the next time.
+-- A cycle where one is due; in QUIESCENT_DOMAIN without one the change of DOMAIN; the end at the stop time; else the
+-- phase up to the next time.
+abbrev pub from_place_by : Bool → Bool → (Place → Run) → (Place → Run) → Place → Run
+from_place_by true stopped delta further p = delta p
+from_place_by false true delta further p = over (Reached p.time)
+from_place_by false false delta further p = further p
+
+abbrev pub begins_delta : System → Place → Bool
+begins_delta sys p = is_due sys p || not p.timed
+
+abbrev pub phase_from : System → (ℕ → Place → Run) → ℕ → Place → Run
+phase_from sys cycle n p = phase sys cycle (at_time sys cycle) n p
+
 abbrev pub from_place : System → (ℕ → Bool → Place → Run) → ℕ → Place → Run
 from_place sys begin n p =
-    if is_due sys p || not p.timed then next_delta sys begin n (not (is_due sys p)) p
-    else if p.time == sys.options.stop then over (Reached p.time)
-    else phase sys (λ m q. begin m false q) (at_time sys (λ m q. begin m false q)) n p
+    from_place_by (begins_delta sys p) (p.time == sys.options.stop)
+    (next_delta sys begin n (not (is_due sys p))) (phase_from sys (λ m q. begin m false q) n) p
 
 -- what follows, with the cycles and the tries that are left
 unfoldable pub goes_on : System → ℕ → ℕ → Place → Run

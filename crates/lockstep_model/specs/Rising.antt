@@ -5,23 +5,22 @@ use Rattle.std.proofs.lemmas.Bool.Decides.{leb_tells, eqb_tells}
 use Rattle.step_data.specs.declared.tip.Tip.{Tip}
 use Rattle.step_data.specs.declared.tip.Attempt.{Attempt}
 use Rattle.step_data.specs.declared.event.Event.{Event}
-use Rattle.step_data.specs.declared.event.Event.TheVariants.{Solved, Branch}
+use Rattle.step_data.specs.declared.event.Event.TheVariants.{Solved}
 use Rattle.step_data.specs.declared.outcome.Cause.{Cause}
 use Rattle.step_data.specs.declared.outcome.Kind.{Kind}
 use Rattle.step_data.specs.declared.outcome.Kind.TheVariants.{Accepted, Rejected, Failed}
 use Rattle.step_data.specs.declared.outcome.Ran.{Ran}
 use Rattle.step_data.specs.declared.outcome.Ran.TheVariants as rans
-use Rattle.step_data.specs.declared.outcome.End.TheVariants.{Reached}
 use Rattle.step_data.specs.declared.outcome.Options.{Options}
 use Rattle.step_data.specs.Options.{IsAllowed}
 use Rattle.step_data.specs.Steps.{end_of, next, next_by, is_failed, is_accepted}
 use Rattle.step_model.specs.System.{System, Landing}
-use Rattle.step_model.specs.StepLaws.{HasStep, AttemptFrom, attempt-from}
+use Rattle.step_model.specs.StepLaws.{HasStep, AttemptFrom, attempt_from}
 use Rattle.lockstep_model.specs.Works.{Work, WorkKind, Worked, Tried, Run, Standing, before, over}
 use Rattle.lockstep_model.specs.Works as kinds
 use Rattle.lockstep_model.specs.Crossing.{Bounds, is_near, differs, narrowed, middle, lower_half, upper_half}
 use Rattle.lockstep_model.specs.Lockstep as l
-use Rattle.lockstep_model.specs.Lockstep.{Place, phase, locate, goes_on, lockstep, branch_events}
+use Rattle.lockstep_model.specs.Lockstep.{Place, phase, locate, goes_on, lockstep, branch_event, branch_events}
 
 -- the times of the points among events
 abbrev pub point_times : List Event → List ℕ
@@ -62,7 +61,7 @@ branches-times t n k [] olds x = refl
 branches-times t n k (b ∷ bs) [] x = branches-times t n (k + 1) bs [] x
 branches-times t n k (b ∷ bs) (old ∷ olds) x =
     elim (b == old) as
-    (λ c. point_times (cond c (branch_events t n (k + 1) bs olds) (Branch t n k b ∷ branch_events t n (k + 1) bs olds) ++ Solved t n x ∷ []) ≡ t ∷ []) [
+    (λ c. point_times (branch_event c t n k b ++ branch_events t n (k + 1) bs olds ++ Solved t n x ∷ []) ≡ t ∷ []) [
       | true ↦ branches-times t n (k + 1) bs olds x
       | false ↦ branches-times t n (k + 1) bs olds x
     ]
@@ -155,13 +154,13 @@ locate-rises : (sys : System) (cross : ℕ → Place → Run) → 1 ≤ sys.opti
 unfolding locate
 locate-rises sys cross fine h zero p b step between =
     elim (is_near sys.options.xres b) as
-    (λ t. is_near sys.options.xres b ≡ t → RisesAbove b.lo (point_times (l.bound_events sys p b) ++ step_times (cond t (cross zero (l.stepped_to sys p b.hi b.x)) (l.too_many_tries p)).works)) [
+    (λ t. is_near sys.options.xres b ≡ t → RisesAbove b.lo (point_times (l.bound_events sys p b) ++ step_times (l.searched t sys (cross zero) (λ b'. l.too_many_tries p) p b).works)) [
       | true ↦ λ near. crossed-rises sys cross h zero p b step between near
       | false ↦ λ far. rw (bound-far sys p b far) tt
     ] refl
 locate-rises sys cross fine h (suc n) p b step between =
     elim (is_near sys.options.xres b) as
-    (λ t. is_near sys.options.xres b ≡ t → RisesAbove b.lo (point_times (l.bound_events sys p b) ++ step_times (cond t (cross (suc n) (l.stepped_to sys p b.hi b.x)) (before (Worked kinds.Probe (l.bound_events sys p (l.probed sys p b)) false (l.standing sys p)) (locate sys cross n p (l.probed sys p b)))).works)) [
+    (λ t. is_near sys.options.xres b ≡ t → RisesAbove b.lo (point_times (l.bound_events sys p b) ++ step_times (l.searched t sys (cross (suc n)) (l.probe_run sys p (locate sys cross n p)) p b).works)) [
       | true ↦ λ near. crossed-rises sys cross h (suc n) p b step between near
       | false ↦
           λ far.
@@ -249,15 +248,11 @@ abbrev GoesOn : System → (Place → Run) → Type 0
 GoesOn sys later = (q : Place) → InPhase sys q → Rises (reached q) (later q)
 
 -- the points of what follows an attempt that was no crossing, above a bound that the next ones have
-unless_failed-rises : (sys : System) (p : Place) (later : Place → Run) (a : Attempt) (bound : ℕ) → IsTried sys p a → GoesOn sys later → bound ≤ reached (l.behind sys p a) → RisesAbove bound (step_times (cond (is_failed a.kind) (l.step_too_small a.end a.cause) (later (l.behind sys p a))).works)
-unless_failed-rises sys p later a bound h hl low =
-    elim (is_failed a.kind) as
-    (λ t. RisesAbove bound (step_times (cond t (l.step_too_small a.end a.cause) (later (l.behind sys p a))).works)) [
-      | true ↦ tt
-      | false ↦
-          rises-lower bound (reached (l.behind sys p a)) (step_times (later (l.behind sys p a)).works) low
-          (hl (l.behind sys p a) (behind-in sys p a h))
-    ]
+uncrossed-rises : (failed : Bool) (sys : System) (crossing : Bounds → Run) (later : Place → Run) (p : Place) (a : Attempt) (bound : ℕ) → IsTried sys p a → GoesOn sys later → bound ≤ reached (l.behind sys p a) → Rises bound (l.after_attempt false failed sys crossing later p a)
+uncrossed-rises true sys crossing later p a bound h hl low = tt
+uncrossed-rises false sys crossing later p a bound h hl low =
+    rises-lower bound (reached (l.behind sys p a)) (step_times (later (l.behind sys p a)).works) low
+    (hl (l.behind sys p a) (behind-in sys p a h))
 
 behind-reached : (sys : System) (p : Place) (a : Attempt) → IsTried sys p a → reached p ≤ reached (l.behind sys p a)
 behind-reached sys p a h =
@@ -271,34 +266,35 @@ point-reached sys p a e =
     next_by-accepted a.kind p.tip a (and_first (is_accepted a.kind) (nat_lt p.time a.end) e) in
     omega arith
 
-after_attempt-rises : (sys : System) (p : Place) (later : Place → Run) (a : Attempt) → IsTried sys p a → GoesOn sys later → RisesAbove (reached p) (point_times (cond (l.gives_point p a) (l.point_events a.end 0 a.x (l.step_branches sys p) p.branches) []) ++ step_times (cond (is_failed a.kind) (l.step_too_small a.end a.cause) (later (l.behind sys p a))).works)
-after_attempt-rises sys p later a h hl =
+given-rises : (sys : System) (crossing : Bounds → Run) (later : Place → Run) (p : Place) (a : Attempt) → IsTried sys p a → GoesOn sys later → RisesAbove (reached p) (point_times (cond (l.gives_point p a) (l.point_events a.end 0 a.x (l.step_branches sys p) p.branches) []) ++ step_times (l.after_attempt false (is_failed a.kind) sys crossing later p a).works)
+given-rises sys crossing later p a h hl =
     elim (l.gives_point p a) as
-    (λ t. l.gives_point p a ≡ t → RisesAbove (reached p) (point_times (cond t (l.point_events a.end 0 a.x (l.step_branches sys p) p.branches) []) ++ step_times (cond (is_failed a.kind) (l.step_too_small a.end a.cause) (later (l.behind sys p a))).works)) [
+    (λ t. l.gives_point p a ≡ t → RisesAbove (reached p) (point_times (cond t (l.point_events a.end 0 a.x (l.step_branches sys p) p.branches) []) ++ step_times (l.after_attempt false (is_failed a.kind) sys crossing later p a).works)) [
       | true ↦
           λ e.
           let after = point-after p a e in
           let later_end = tried-later sys p a h in
           rw (point-times a.end 0 a.x (l.step_branches sys p) p.branches)
-          (omega arith, unless_failed-rises sys p later a a.end h hl (point-reached sys p a e))
-      | false ↦ λ e. unless_failed-rises sys p later a (reached p) h hl (behind-reached sys p a h)
+          (omega arith, uncrossed-rises (is_failed a.kind) sys crossing later p a a.end h hl (point-reached sys p a e))
+      | false ↦
+          λ e. uncrossed-rises (is_failed a.kind) sys crossing later p a (reached p) h hl (behind-reached sys p a h)
     ] refl
 
-tried-rises : (sys : System) (p : Place) (crossing : Bounds → Run) (later : Place → Run) (a : Attempt) → IsTried sys p a → Searches sys p crossing → GoesOn sys later → Rises (reached p) (l.tried sys p crossing later a)
-tried-rises sys p crossing later a h hc hl =
+tried-rises : (sys : System) (crossing : Bounds → Run) (later : Place → Run) (p : Place) (a : Attempt) → IsTried sys p a → Searches sys p crossing → GoesOn sys later → Rises (reached p) (l.tried sys crossing later p a)
+tried-rises sys crossing later p a h hc hl =
     elim (l.is_crossing sys p a) as
-    (λ t. l.is_crossing sys p a ≡ t → RisesAbove (reached p) (point_times (cond t (l.bound_events sys p (l.attempt_bounds p a)) (cond (l.gives_point p a) (l.point_events a.end 0 a.x (l.step_branches sys p) p.branches) [])) ++ step_times (cond t (crossing (l.attempt_bounds p a)) (cond (is_failed a.kind) (l.step_too_small a.end a.cause) (later (l.behind sys p a)))).works)) [
+    (λ t. l.is_crossing sys p a ≡ t → RisesAbove (reached p) (point_times (cond t (l.bound_events sys p (l.attempt_bounds p a)) (cond (l.gives_point p a) (l.point_events a.end 0 a.x (l.step_branches sys p) p.branches) [])) ++ step_times (l.after_attempt t (is_failed a.kind) sys crossing later p a).works)) [
       | true ↦
           λ e.
           hc (l.attempt_bounds p a) (attempt-between sys p a h (and_first (l.gives_point p a) (differs a.x (l.aboves_at sys p)) e))
-      | false ↦ λ e. after_attempt-rises sys p later a h hl
+      | false ↦ λ e. given-rises sys crossing later p a h hl
     ] refl
 
 -- where a phase arrives
 abbrev Arrives : System → (Place → Run) → Type 0
 Arrives sys arrive = (q : Place) → IsPlaced sys q → Rises q.time (arrive q)
 
-side-between : (sys : System) (p : Place) (s : Landing) → InPhase sys p → (p.tip.t == l.until sys p) ≡ false → IsBetween sys p (l.side_bounds sys p s)
+side-between : (sys : System) (p : Place) (s : Landing) → InPhase sys p → l.is_there sys p ≡ false → IsBetween sys p (l.side_bounds sys p s)
 side-between sys p s h apart =
     let before = h.before in
     let tip : p.tip.t < l.until sys p = below p.tip.t (l.until sys p) h.tip apart in
@@ -307,7 +303,7 @@ side-between sys p s h apart =
     below : (a b : ℕ) → a ≤ b → (a == b) ≡ false → a < b
     below a b h e = grind (arith, eqb_tells)
 
-refused-in : (sys : System) (p : Place) → InPhase sys p → nat_lt (l.side_step sys p / 2) sys.options.hmin ≡ false → nat_le (end_of p.tip) (l.until sys p) ≡ false → InPhase sys (l.side_refused sys p)
+refused-in : (sys : System) (p : Place) → InPhase sys p → l.is_too_small sys p ≡ false → l.ends_in_time sys p ≡ false → InPhase sys (l.side_refused sys p)
 refused-in sys p h low far =
     record {
       before = h.before;
@@ -325,66 +321,71 @@ refused-in sys p h low far =
     half : (u t h most : ℕ) → nat_le (t + h) u ≡ false → h ≤ most → (u - t) / 2 ≤ most
     half u t h most far top = grind (arith, leb_tells)
 
-sided-rises : (sys : System) (p : Place) (crossing : Bounds → Run) (refused arrive : Place → Run) (o : Result Landing Cause) → InPhase sys p → (p.tip.t == l.until sys p) ≡ false → nat_le (end_of p.tip) (l.until sys p) ≡ false → Searches sys p crossing → GoesOn sys refused → Arrives sys arrive → Rises (reached p) (l.sided sys p crossing refused arrive o)
-sided-rises sys p crossing refused arrive (Err c) h apart far hc hr ha =
-    elim (nat_lt (l.side_step sys p / 2) sys.options.hmin) as
-    (λ t. nat_lt (l.side_step sys p / 2) sys.options.hmin ≡ t → Rises (reached p) (cond t (before (Worked kinds.Side [] false (l.standing sys p)) (l.step_too_small (l.until sys p) c)) (before (Worked kinds.Side [] true (l.standing sys (l.side_refused sys p))) (refused (l.side_refused sys p))))) [
+refused_side-rises : (sys : System) (refused : Place → Run) (p : Place) (c : Cause) → InPhase sys p → l.ends_in_time sys p ≡ false → GoesOn sys refused → Rises (reached p) (l.refused_side (l.is_too_small sys p) sys refused p c)
+refused_side-rises sys refused p c h far hr =
+    elim (l.is_too_small sys p) as
+    (λ t. l.is_too_small sys p ≡ t → Rises (reached p) (l.refused_side t sys refused p c)) [
       | true ↦ λ e. tt
       | false ↦ λ e. hr (l.side_refused sys p) (refused-in sys p h e far)
     ] refl
-sided-rises sys p crossing refused arrive (Ok s) h apart far hc hr ha =
-    elim (differs s.x (l.aboves_at sys p)) as
-    (λ t. Rises (reached p) (cond t (before (Worked kinds.Side (l.bound_events sys p (l.side_bounds sys p s)) false (l.standing sys p)) (crossing (l.side_bounds sys p s))) (before (Worked kinds.Side (l.point_events (l.until sys p) 0 s.x (l.step_branches sys p) p.branches) false (l.standing sys (l.side_arrived sys p s))) (arrive (l.side_arrived sys p s))))) [
-      | true ↦ hc (l.side_bounds sys p s) (side-between sys p s h apart)
-      | false ↦
-          let between = side-between sys p s h apart in
-          let order = between.order in
-          rw (point-times (l.until sys p) 0 s.x (l.step_branches sys p) p.branches)
-          (order, ha (l.side_arrived sys p s) (stepped-placed sys p (l.until sys p) s.x h.tip h.within h.step))
-    ]
 
-at_tip-rises : (sys : System) (arrive : ℕ → Place → Run) → ((m : ℕ) → Arrives sys (arrive m)) → (n : ℕ) (p : Place) → InPhase sys p → (p.tip.t == l.until sys p) ≡ true → Rises (reached p) (arrive n (l.at_tip sys p))
-at_tip-rises sys arrive ha n p h e =
+accepted_side-rises : (crossed : Bool) (sys : System) (crossing : Bounds → Run) (arrive : Place → Run) (p : Place) (s : Landing) → InPhase sys p → l.is_there sys p ≡ false → Searches sys p crossing → Arrives sys arrive → Rises (reached p) (l.accepted_side crossed sys crossing arrive p s)
+accepted_side-rises true sys crossing arrive p s h apart hc ha = hc (l.side_bounds sys p s) (side-between sys p s h apart)
+accepted_side-rises false sys crossing arrive p s h apart hc ha =
+    let between = side-between sys p s h apart in
+    let order = between.order in
+    rw (point-times (l.until sys p) 0 s.x (l.step_branches sys p) p.branches)
+    (order, ha (l.side_arrived sys p s) (stepped-placed sys p (l.until sys p) s.x h.tip h.within h.step))
+
+sided-rises : (sys : System) (crossing : Bounds → Run) (refused arrive : Place → Run) (p : Place) (o : Result Landing Cause) → InPhase sys p → l.is_there sys p ≡ false → l.ends_in_time sys p ≡ false → Searches sys p crossing → GoesOn sys refused → Arrives sys arrive → Rises (reached p) (l.sided sys crossing refused arrive p o)
+sided-rises sys crossing refused arrive p (Err c) h apart far hc hr ha = refused_side-rises sys refused p c h far hr
+sided-rises sys crossing refused arrive p (Ok s) h apart far hc hr ha =
+    accepted_side-rises (differs s.x (l.aboves_at sys p)) sys crossing arrive p s h apart hc ha
+
+at_tip-rises : (sys : System) (arrive : ℕ → Place → Run) → ((m : ℕ) → Arrives sys (arrive m)) → (n : ℕ) (p : Place) → InPhase sys p → Rises (reached p) (arrive n (l.at_tip sys p))
+at_tip-rises sys arrive ha n p h =
     let before = h.before in
     let tip = h.tip in
     rises-lower (reached p) (l.until sys p) (step_times (arrive n (l.at_tip sys p)).works) (omega arith)
     (ha n (l.at_tip sys p) (record { tip = h.tip; within = h.within; step = h.step }))
 
+-- what comes in a phase rises where its parts do
+phase_by-rises : (sys : System) (arrive attempt side : Place → Run) (p : Place) → Rises (reached p) (arrive (l.at_tip sys p)) → (l.ends_in_time sys p ≡ true → Rises (reached p) (attempt p)) → (l.is_there sys p ≡ false → l.ends_in_time sys p ≡ false → Rises (reached p) (side p)) → Rises (reached p) (l.phase_by (l.is_there sys p) (l.ends_in_time sys p) sys arrive attempt side p)
+phase_by-rises sys arrive attempt side p ha ht hs =
+    elim (l.is_there sys p) as
+    (λ t. l.is_there sys p ≡ t → Rises (reached p) (l.phase_by t (l.ends_in_time sys p) sys arrive attempt side p)) [
+      | true ↦ λ there. ha
+      | false ↦
+          λ apart.
+          elim (l.ends_in_time sys p) as
+          (λ t. l.ends_in_time sys p ≡ t → Rises (reached p) (l.phase_by false t sys arrive attempt side p)) [
+            | true ↦ ht
+            | false ↦ hs apart
+          ] refl
+    ] refl
+
 -- a phase gives its points later and later
 phase-rises : (sys : System) (cross arrive : ℕ → Place → Run) → IsAllowed sys.options → Crosses sys cross → ((m : ℕ) → Arrives sys (arrive m)) → (n : ℕ) (p : Place) → InPhase sys p → Rises (reached p) (phase sys cross arrive n p)
 unfolding phase
 phase-rises sys cross arrive o hc ha zero p h =
-    elim (p.tip.t == l.until sys p) as
-    (λ t. (p.tip.t == l.until sys p) ≡ t → Rises (reached p) (cond t (arrive zero (l.at_tip sys p)) (l.too_many_tries p))) [
-      | true ↦ λ e. at_tip-rises sys arrive ha zero p h e
-      | false ↦ λ e. tt
-    ] refl
+    phase_by-rises sys (arrive zero) l.too_many_tries l.too_many_tries p (at_tip-rises sys arrive ha zero p h) (λ e. tt) (λ apart far. tt)
 phase-rises sys cross arrive o hc ha (suc n) p h =
-    elim (p.tip.t == l.until sys p) as
-    (λ t. (p.tip.t == l.until sys p) ≡ t → Rises (reached p) (cond t (arrive (suc n) (l.at_tip sys p)) (cond (nat_le (end_of p.tip) (l.until sys p)) (l.tried sys p (locate sys cross n p) (phase sys cross arrive n) (l.attempt_at sys p)) (l.sided sys p (locate sys cross n p) (phase sys cross arrive n) (arrive n) (l.side_at sys p))))) [
-      | true ↦ λ e. at_tip-rises sys arrive ha (suc n) p h e
-      | false ↦
-          λ apart.
-          elim (nat_le (end_of p.tip) (l.until sys p)) as
-          (λ t. nat_le (end_of p.tip) (l.until sys p) ≡ t → Rises (reached p) (cond t (l.tried sys p (locate sys cross n p) (phase sys cross arrive n) (l.attempt_at sys p)) (l.sided sys p (locate sys cross n p) (phase sys cross arrive n) (arrive n) (l.side_at sys p)))) [
-            | true ↦
-                λ e.
-                tried-rises sys p (locate sys cross n p) (phase sys cross arrive n) (l.attempt_at sys p)
-                (record {
-                  phase = h;
-                  positive = o.hmin_least;
-                  attempt = attempt-from sys (l.frame_at sys p) p.tip h.step;
-                  ends = at_most (end_of p.tip) (l.until sys p) e;
-                })
-                (λ b between. locate-rises sys cross o.xres_least hc n p b h.step between)
-                (phase-rises sys cross arrive o hc ha n)
-            | false ↦
-                λ far.
-                sided-rises sys p (locate sys cross n p) (phase sys cross arrive n) (arrive n) (l.side_at sys p) h apart far
-                (λ b between. locate-rises sys cross o.xres_least hc n p b h.step between)
-                (phase-rises sys cross arrive o hc ha n) (ha n)
-          ] refl
-    ] refl
+    phase_by-rises sys (arrive (suc n))
+    (λ q. l.tried sys (locate sys cross n q) (phase sys cross arrive n) q (l.attempt_at sys q))
+    (λ q. l.sided sys (locate sys cross n q) (phase sys cross arrive n) (arrive n) q (l.side_at sys q)) p
+    (at_tip-rises sys arrive ha (suc n) p h)
+    (λ e. tried-rises sys (locate sys cross n p) (phase sys cross arrive n) p (l.attempt_at sys p)
+    (record {
+      phase = h;
+      positive = o.hmin_least;
+      attempt = attempt_from sys (l.frame_at sys p) p.tip h.step;
+      ends = at_most (end_of p.tip) (l.until sys p) e;
+    })
+    (λ b between. locate-rises sys cross o.xres_least hc n p b h.step between)
+    (phase-rises sys cross arrive o hc ha n))
+    (λ apart far. sided-rises sys (locate sys cross n p) (phase sys cross arrive n) (arrive n) p (l.side_at sys p) h apart far
+    (λ b between. locate-rises sys cross o.xres_least hc n p b h.step between)
+    (phase-rises sys cross arrive o hc ha n) (ha n))
 
 -- where work stands at a place or the next time is later
 not_standing : (next : Option ℕ) (t stop : ℕ) → l.stands next t ≡ false → t < stop → t < l.earlier next stop
@@ -425,39 +426,38 @@ Begins sys begin = (m : ℕ) (to_time : Bool) (q : Place) → IsPlaced sys q →
 
 at_time-rises : (sys : System) (cycle : ℕ → Place → Run) → Crosses sys cycle → (m : ℕ) → Arrives sys (l.at_time sys cycle m)
 at_time-rises sys cycle h m p placed =
-    elim (l.stands (sys.next_time p.digital) p.time) as (λ t. Rises p.time (cond t (cycle m p) (over (Reached p.time)))) [
+    elim (l.stands (sys.next_time p.digital) p.time) as (λ t. Rises p.time (l.at_time_by t (cycle m) p)) [
       | true ↦ h m p placed
       | false ↦ tt
     ]
 
-next_delta-rises : (sys : System) (begin : ℕ → Bool → Place → Run) → Begins sys begin → (n : ℕ) (to_time : Bool) (p : Place) → IsPlaced sys p → Rises p.time (l.next_delta sys begin n to_time p)
-next_delta-rises sys begin h n to_time p placed =
-    elim (nat_le sys.deltas p.delta) as
-    (λ t. Rises p.time (cond t (l.too_many_deltas p) (begin n to_time (record p { delta = p.delta + 1 })))) [
-      | true ↦ tt
+next_delta-rises : (many : Bool) (sys : System) (begin : Place → Run) → Arrives sys begin → (p : Place) → IsPlaced sys p → Rises p.time (l.next_delta_by many begin p)
+next_delta-rises true sys begin h p placed = tt
+next_delta-rises false sys begin h p placed =
+    h (l.deeper p) (record { tip = placed.tip; within = placed.within; step = placed.step })
+
+from_place_by-rises : (sys : System) (delta further : Place → Run) (p : Place) → Rises p.time (delta p) → (l.begins_delta sys p ≡ false → (p.time == sys.options.stop) ≡ false → Rises p.time (further p)) → Rises p.time (l.from_place_by (l.begins_delta sys p) (p.time == sys.options.stop) delta further p)
+from_place_by-rises sys delta further p hd hf =
+    elim (l.begins_delta sys p) as
+    (λ t. l.begins_delta sys p ≡ t → Rises p.time (l.from_place_by t (p.time == sys.options.stop) delta further p)) [
+      | true ↦ λ e. hd
       | false ↦
-          h n to_time (record p { delta = p.delta + 1 })
-          (record { tip = placed.tip; within = placed.within; step = placed.step })
-    ]
+          λ none.
+          elim (p.time == sys.options.stop) as
+          (λ t. (p.time == sys.options.stop) ≡ t → Rises p.time (l.from_place_by false t delta further p)) [
+            | true ↦ λ e. tt
+            | false ↦ hf none
+          ] refl
+    ] refl
 
 from_place-rises : (sys : System) (begin : ℕ → Bool → Place → Run) → IsAllowed sys.options → Begins sys begin → (n : ℕ) (p : Place) → IsPlaced sys p → Rises p.time (l.from_place sys begin n p)
 from_place-rises sys begin o h n p placed =
-    elim (l.is_due sys p || not p.timed) as
-    (λ t. (l.is_due sys p || not p.timed) ≡ t → Rises p.time (cond t (l.next_delta sys begin n (not (l.is_due sys p)) p) (cond (p.time == sys.options.stop) (over (Reached p.time)) (phase sys (λ m q. begin m false q) (l.at_time sys (λ m q. begin m false q)) n p)))) [
-      | true ↦ λ e. next_delta-rises sys begin h n (not (l.is_due sys p)) p placed
-      | false ↦
-          λ rest.
-          elim (p.time == sys.options.stop) as
-          (λ t. (p.time == sys.options.stop) ≡ t → Rises p.time (cond t (over (Reached p.time)) (phase sys (λ m q. begin m false q) (l.at_time sys (λ m q. begin m false q)) n p))) [
-            | true ↦ λ e. tt
-            | false ↦
-                λ apart.
-                rises-lower p.time (reached p) (step_times (phase sys (λ m q. begin m false q) (l.at_time sys (λ m q. begin m false q)) n p).works) (omega arith)
-                (phase-rises sys (λ m q. begin m false q) (l.at_time sys (λ m q. begin m false q)) o (λ m q. h m false q)
-                (at_time-rises sys (λ m q. begin m false q) (λ m q. h m false q)) n p
-                (place-in sys p placed (or_first (l.is_due sys p) (not p.timed) rest) apart))
-          ] refl
-    ] refl
+    let cycle : ℕ → Place → Run = λ m q. begin m false q in
+    from_place_by-rises sys (l.next_delta sys begin n (not (l.is_due sys p))) (l.phase_from sys cycle n) p
+    (next_delta-rises (nat_le sys.deltas p.delta) sys (begin n (not (l.is_due sys p))) (h n (not (l.is_due sys p))) p placed)
+    (λ none apart. rises-lower p.time (reached p) (step_times (l.phase_from sys cycle n p).works) (omega arith)
+    (phase-rises sys cycle (l.at_time sys cycle) o (λ m q. h m false q) (at_time-rises sys cycle (λ m q. h m false q)) n p
+    (place-in sys p placed (or_first (l.is_due sys p) (not p.timed) none) apart)))
 
 new_step : (o : Options) → IsAllowed o → HasStep o o.h0
 new_step o h = record { least = h.h0_least; most = h.h0_most }
@@ -478,15 +478,14 @@ solved_run-rises sys cycle o h p (Ok x) placed =
     h (l.solved_at sys p x) (record { tip = tip.0; within = placed.within; step = tip.1 })
 solved_run-rises sys cycle o h p (Err c) placed = tt
 
+delta_by-rises : (needs : Bool) (sys : System) (cycle : Place → Run) → IsAllowed sys.options → Arrives sys cycle → (p : Place) → IsPlaced sys p → Rises p.time (l.delta_by needs sys cycle p)
+delta_by-rises true sys cycle o h p placed = solved_run-rises sys cycle o h p (l.solution sys p) placed
+delta_by-rises false sys cycle o h p placed = h p placed
+
 delta_run-rises : (sys : System) (rest : Place → Run) → IsAllowed sys.options → Arrives sys rest → (to_time : Bool) (p : Place) → IsPlaced sys p → Rises p.time (l.delta_run sys rest to_time p)
 delta_run-rises sys rest o h to_time p placed =
-    elim (l.needs_solution sys p) as
-    (λ t. Rises p.time (cond t (l.solved_run sys (l.cycle_run sys rest to_time) p (l.solution sys p)) (l.cycle_run sys rest to_time p))) [
-      | true ↦
-          solved_run-rises sys (l.cycle_run sys rest to_time) o
-          (λ q at. cycled_run-rises sys rest o h to_time q (l.cycle_at sys to_time q).ran at) p (l.solution sys p) placed
-      | false ↦ cycled_run-rises sys rest o h to_time p (l.cycle_at sys to_time p).ran placed
-    ]
+    delta_by-rises (l.needs_solution sys p) sys (l.cycle_run sys rest to_time) o
+    (λ q at. cycled_run-rises sys rest o h to_time q (l.cycle_at sys to_time q).ran at) p placed
 
 goes_on-rises : (sys : System) → IsAllowed sys.options → (c n : ℕ) (p : Place) → IsPlaced sys p → Rises p.time (goes_on sys c n p)
 unfolding goes_on

@@ -44,6 +44,6 @@ attempt_by-from o tip (Err c) s =
     half low = let most = s.most in record { least = grind (arith, leb_tells); most = omega arith }
 
 -- an attempt ends where the tip's step ends, and the step behind it is between the least and the greatest one
-pub attempt-from : (sys : System) (frame : List Val) (tip : Tip) → HasStep sys.options tip.h → AttemptFrom sys.options tip (attempt sys frame tip)
+pub attempt_from : (sys : System) (frame : List Val) (tip : Tip) → HasStep sys.options tip.h → AttemptFrom sys.options tip (attempt sys frame tip)
 unfolding attempt
-attempt-from sys frame tip s = attempt_by-from sys.options tip (sys.trial frame tip tip.h) s
+attempt_from sys frame tip s = attempt_by-from sys.options tip (sys.trial frame tip tip.h) s
