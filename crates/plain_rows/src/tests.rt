@@ -1,4 +1,4 @@
-use crate::rows::{FIVE, ONE, ROWS};
+use crate::rows::{FIVE, ONE, ROWS, words_of};
 use port_io::{MemSink, MemSource};
 use sim_top::simulate_plain;
 use std::alloc::{AllocError, Global};
@@ -25,10 +25,7 @@ struct Ran {
 }
 
 fn simulated(alloc: Global, line: &str, text: &[u8], fails: &Fails) -> Result<Ran, AllocError> {
-    let mut words = Vec::new(alloc);
-    for word in line.split_whitespace() {
-        words.push(String::from_str(alloc, word)?)?;
-    }
+    let words = words_of(alloc, line)?;
     let bytes = Vec::from_slice(alloc, text)?;
     let mut source = MemSource::new(bytes, Vec::from_slice(alloc, fails.source)?);
     let mut trace = MemSink::new(alloc, Vec::from_slice(alloc, fails.trace)?);
