@@ -1,0 +1,4 @@
+pub mod Advance
+pub mod Kept
+pub mod Rising
+pub mod Values
