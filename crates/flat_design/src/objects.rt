@@ -2,9 +2,9 @@
 ghost use Rattle.std.specs.Prelude.{◌≡◌, ◌<◌, ◌≤◌, ◌++◌, ◌∷◌, [], length, position, nat_eq, IfOk, OnOk, OnErr};
 ghost use Rattle.flat_design.specs.Lists.{same_threshold, place_of_dot, with_dot, place_of_threshold, with_threshold};
 
-use ams_value::Val;
+use ams_value::{Val, ValueType};
 use fix_core::Fix;
-use flat_expr::{Constraint, FlatExpr, Statement, ValueType};
+use flat_expr::{Constraint, FlatExpr, Statement};
 use sqlite_items::Items;
 use std::alloc::{AllocError, Global};
 

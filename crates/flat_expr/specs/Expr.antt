@@ -1,8 +1,8 @@
 -- What a typed expression is of, and which signals it reads.
 use Rattle.std.specs.Prelude.{ℕ, Bool, true, false, ◌||◌, nat_eq}
 use Rattle.ams_value.specs.declared.val.Val.{Val}
-use Rattle.flat_expr.specs.declared.subtype.ValueType.{ValueType}
-use Rattle.flat_expr.specs.declared.subtype.ValueType.TheVariants as kind
+use Rattle.ams_value.specs.declared.value_type.ValueType.{ValueType}
+use Rattle.ams_value.specs.declared.value_type.ValueType.TheVariants as kind
 use Rattle.flat_expr.specs.declared.expr.SignalName.{SignalName}
 use Rattle.flat_expr.specs.declared.expr.SignalName.TheVariants.{Signal, Threshold, Domain}
 use Rattle.flat_expr.specs.declared.expr.Function.{Function}
@@ -10,7 +10,7 @@ use Rattle.flat_expr.specs.declared.expr.Function.TheVariants as function
 use Rattle.flat_expr.specs.declared.expr.FlatExpr.{FlatExpr, out-FlatExpr}
 use Rattle.flat_expr.specs.declared.expr.FlatExpr.TheOpen.{FlatExpr-F}
 use Rattle.flat_expr.specs.declared.expr.FlatExpr.TheFolds.{fold-FlatExpr}
-use Rattle.flat_expr.specs.Subtype.{type_of}
+use Rattle.ams_value.specs.Types.{type_of}
 
 abbrev pub kind_of_call : Function → ValueType
 kind_of_call function.Integer = kind.Integer

@@ -2,8 +2,7 @@
 ghost use Rattle.std.specs.Prelude.{◌≡◌, IfOk};
 ghost use Rattle.flat_expr.specs.Expr.{kind_of, reads_in};
 
-use crate::subtype::ValueType;
-use ams_value::{Op1, Op2, Val};
+use ams_value::{Op1, Op2, Val, ValueType};
 use sqlite_items::Boxed;
 use std::alloc::{AllocError, Global};
 

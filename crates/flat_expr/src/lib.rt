@@ -9,4 +9,4 @@ pub use expr::{Direction, FlatExpr, Function, IndexRange, SignalName, Unknown};
 pub use statement::{
     Alternative, Branch, BreakElement, DelayMechanism, Severity, Statement, WaveElement,
 };
-pub use subtype::{Constraint, ValueType};
+pub use subtype::Constraint;

@@ -1,23 +1,9 @@
-//! The types of objects and expressions.
+//! Subtypes.
 ghost use Rattle.std.specs.Prelude.{◌≡◌};
-ghost use Rattle.flat_expr.specs.Subtype.{type_of, lies_in};
+ghost use Rattle.flat_expr.specs.Subtype.{lies_in};
 
 use ams_value::Val;
 use fix_core::Fix;
-
-/// The base type of a value.
-#[derive(Clone, Copy, Debug, PartialEq, Eq)]
-pub enum ValueType {
-    Boolean,
-    Bit,
-    Integer,
-    Real,
-    Time,
-    /// By the number of its declaration; number 0 is DOMAIN_TYPE.
-    Enumeration(u16),
-    /// BIT_VECTOR with its length.
-    BitVector(u8),
-}
 
 /// Which values of its base type a subtype has (IEEE 1076, 6.3).
 #[derive(Clone, Copy, PartialEq, Eq)]
@@ -28,22 +14,6 @@ pub enum Constraint {
     Integer(i32, i32),
     /// The numbers from the first to the second; none where the first is greater.
     Real(Fix, Fix),
-}
-
-impl ValueType {
-    pub fn of(value: Val) -> ValueType
-        ensures { result ≡ type_of value }
-    {
-        match value {
-            Val::Bool(_) => ValueType::Boolean,
-            Val::Bit(_) => ValueType::Bit,
-            Val::Int(_) => ValueType::Integer,
-            Val::Real(_) => ValueType::Real,
-            Val::Time(_) => ValueType::Time,
-            Val::Enum(number, _) => ValueType::Enumeration(number),
-            Val::Bits(length, _) => ValueType::BitVector(length),
-        }
-    }
 }
 
 impl Constraint {
