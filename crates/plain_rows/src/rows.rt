@@ -145,10 +145,10 @@ pub const ROWS: [Row; 19] = [
         notes: "",
     },
     Row {
-        words: "--mode lockstep --top R4 --stop 999",
-        text: "entity r4 is end; architecture q of r4 is quantity e3 : real; begin e3 == 12.3; end;",
+        words: "--mode lockstep --top H26529471 --stop 7000 --hmin 7 --h0 1000 --hmax 5000",
+        text: "entity h26529471 is end; architecture x09 of h26529471 is quantity c : real; quantity z8 : real; quantity p1 : real; begin c == 5.6; z8 == 539351920071.32377; p1 == 65789.0; end;",
         status: 0,
-        trace: "A 1 r4 999 1000 1 1000000 1000000 1000000000 1\nU 0 r4.e3\nP 0 1 12.3\nD 0 2\nP 999 0 12.3\nE 999\n",
+        trace: "A 1 h26529471 7000 1000 7 5000 1000000 1000000000 1\nU 0 h26529471.c\nU 1 h26529471.z8\nU 2 h26529471.p1\nP 0 1 5.6 539351920071.32377 65789.0\nD 0 2\nP 1000 0 5.6 539351920071.32377 65789.0\nP 3000 0 5.6 539351920071.32377 65789.0\nP 7000 0 5.6 539351920071.32377 65789.0\nE 7000\n",
         notes: "",
     },
 ];
