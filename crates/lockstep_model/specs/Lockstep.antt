@@ -87,14 +87,13 @@ abbrev pub is_unsolved : Option (List Val) → List Val → Bool
 is_unsolved None frame = true
 is_unsolved (Some old) frame = not (same_frame old frame)
 
--- a next delta is due
-abbrev pub is_due : System → Place → Bool
-is_due sys p =
-    stands (sys.next_time p.digital) p.time || (p.broke || (not p.timed && is_unsolved p.solved (frame_at sys p)))
-
 -- a cycle at the place has to be preceded by a solution
 abbrev pub needs_solution : System → Place → Bool
 needs_solution sys p = p.broke || (not p.timed && is_unsolved p.solved (frame_at sys p))
+
+-- a next delta is due
+abbrev pub is_due : System → Place → Bool
+is_due sys p = stands (sys.next_time p.digital) p.time || needs_solution sys p
 
 -- break elements in the order of their selectors' first ones; a later one replaces the earlier one of its selector
 unfoldable pub replaced : List Element → Element → List Element

@@ -1,6 +1,6 @@
 -- The walk of a run: what callers see of one that is made move by move. It knows the list of the works that are still
 -- to do, and no place, budget or digital side.
-use Rattle.std.specs.Prelude.{◌≡◌, ℕ, ◌+◌, ◌<◌, ◌^◌, ◌&&◌, ◌||◌, Bool, true, false, not, if◌then◌else◌, List, [], ◌∷◌, ◌++◌, min}
+use Rattle.std.specs.Prelude.{◌≡◌, ℕ, ◌+◌, ◌<◌, ◌≤◌, ◌^◌, ◌&&◌, ◌||◌, Bool, true, false, not, if◌then◌else◌, List, [], ◌∷◌, ◌++◌, min}
 use Rattle.ams_value.specs.declared.val.Val.{Val}
 use Rattle.step_data.specs.declared.tip.Tip.{Tip}
 use Rattle.step_data.specs.declared.tip.Attempt.{Attempt}
@@ -14,7 +14,7 @@ use Rattle.lockstep_model.specs.declared.moves.Ask.{Ask}
 use Rattle.lockstep_model.specs.declared.moves.Ask.TheVariants as asks
 use Rattle.lockstep_model.specs.declared.moves.Moved.{Moved}
 use Rattle.lockstep_model.specs.declared.moves.Moved.TheVariants as says
-use Rattle.lockstep_model.specs.Works.{Work, Worked, Tried, events_of, cycles_at, steps_at, attempts_in}
+use Rattle.lockstep_model.specs.Works.{Work, Worked, Tried, events_of, cycles_at, steps_at, attempts_in, renewals_in}
 use Rattle.lockstep_model.specs.Lockstep.{lockstep, first_standing}
 
 -- the reply to the last ask
@@ -259,3 +259,26 @@ pub record Costs (w : Walk) (reply : Reply) (m : Move) : Type 0 where
   pub spends : Spends w m.walk reply
   pub owns : OwnsOne w m.walk reply
   pub falls : Falls w m.walk m.says
+
+-- how many begins a move asks for
+abbrev pub begins_asked : Ask → ℕ
+begins_asked asks.None = 0
+begins_asked asks.Begin = 1
+begins_asked (asks.Look until) = 0
+begins_asked asks.Consume = 0
+
+abbrev pub begins_said : Moved → ℕ
+begins_said (says.Ended e) = 0
+begins_said (says.Ask ask) = begins_asked ask
+
+-- an own attempt may still need a begin
+abbrev pub may_begin : Stage → ℕ
+may_begin Ready = 0
+may_begin Looking = 0
+may_begin (Settling own next) = if own then 1 else 0
+may_begin Broken = 0
+
+-- there is a begin for each work that renews, and at most one more for each own attempt
+pub record Begins (w : Walk) (reply : Reply) (m : Move) : Type 0 where
+  pub least : renewals_in w.works ≤ begins_said m.says + renewals_in m.walk.works
+  pub most : begins_said m.says + renewals_in m.walk.works + may_begin m.walk.stage ≤ renewals_in w.works + may_begin w.stage + nothing reply

@@ -9,8 +9,8 @@ use Rattle.step_data.specs.Steps.{next, is_failed}
 use Rattle.lockstep_model.specs.declared.moves.Ask.TheVariants as asks
 use Rattle.lockstep_model.specs.declared.moves.Moved.{Moved}
 use Rattle.lockstep_model.specs.declared.moves.Moved.TheVariants as says
-use Rattle.lockstep_model.specs.Works.{Work, Worked, Tried, events_of, attempts_in}
-use Rattle.lockstep_model.specs.Walk.{Walk, Move, Stage, Ready, Looking, Settling, Broken, Reply, NoReply, Here, Nothing, Consumed, Keeps, Costs, Fits, LooksAhead, StartsTried, proceed, proceed_to, own_first, found_first, led_by, settled, was_consumed, has_none, looked, moved_at, moved, here, nothing, weight, moves_left, FallsBelow, Awaits}
+use Rattle.lockstep_model.specs.Works.{Work, Worked, Tried, events_of, attempts_in, renewals_in}
+use Rattle.lockstep_model.specs.Walk.{Walk, Move, Stage, Ready, Looking, Settling, Broken, Reply, NoReply, Here, Nothing, Consumed, Keeps, Costs, Fits, LooksAhead, StartsTried, proceed, proceed_to, own_first, found_first, led_by, settled, was_consumed, has_none, looked, moved_at, moved, here, nothing, weight, moves_left, FallsBelow, Awaits, Begins, begins_said, may_begin}
 
 ready_looks : (stage : Stage) (works : List Work) → stage ≡ Ready → LooksAhead stage works
 ready_looks Ready works e = tt
@@ -193,3 +193,74 @@ looks_ahead w (says.Ask asks.None) h = ready_looks w.stage w.works h
 looks_ahead w (says.Ask asks.Begin) h = ready_looks w.stage w.works h
 looks_ahead w (says.Ask (asks.Look until)) h = looking_looks w.stage w.works h.0 h.1
 looks_ahead w (says.Ask asks.Consume) (own, after, e) = settling_looks own after w.stage w.works e
+
+-- begins of a move that does the next work
+record BeginsFrom (works : List Work) (m : Move) : Type 0 where
+  same : begins_said m.says + renewals_in m.walk.works ≡ renewals_in works
+  none : may_begin m.walk.stage ≡ 0
+
+proceed_to-begins : (works : List Work) (w : Walk) → BeginsFrom works (proceed_to works (record w { works = works }))
+proceed_to-begins [] w = record { same = omega arith; none = refl }
+proceed_to-begins (Worked kind events false standing ∷ works) w = record { same = refl; none = refl }
+proceed_to-begins (Worked kind events true standing ∷ works) w = record { same = refl; none = refl }
+proceed_to-begins (Tried tip frame until made crossing events ∷ works) w = record { same = omega arith; none = refl }
+
+from-begins : (w : Walk) (reply : Reply) (m : Move) → BeginsFrom w.works m → Begins w reply m
+from-begins w reply m b =
+    let same = b.same in
+    let none = b.none in
+    record { least = omega arith; most = omega arith }
+
+own_first-begins : (works : List Work) (w : Walk) → StartsTried works → Begins (record w { works = works; stage = Looking }) Nothing (own_first works (record w { works = works; stage = Looking }))
+own_first-begins [] w h = absurd h
+own_first-begins (Worked kind events renews standing ∷ works) w h = absurd h
+own_first-begins (Tried tip frame until made true events ∷ works) w h =
+    record { least = omega arith; most = omega arith }
+own_first-begins (Tried tip frame until made false events ∷ works) w h =
+    record { least = omega arith; most = omega arith }
+
+found_first-begins : (a : Attempt) (works : List Work) (w : Walk) → StartsTried works → Begins (record w { works = works; stage = Looking }) (Here a) (found_first works (record w { works = works; stage = Looking }))
+found_first-begins a [] w h = absurd h
+found_first-begins a (Worked kind events renews standing ∷ works) w h = absurd h
+found_first-begins a (Tried tip frame until made crossing events ∷ works) w h =
+    let old : Walk = record w { works = Tried tip frame until made crossing events ∷ works; stage = Looking } in
+    elim (crossing || is_failed made.kind) as
+    (λ b. Begins old (Here a) (cond b (led_by events (proceed (record old { works = works }))) (record { walk = record old { works = works; stage = Settling false (next w.tip made) }; says = says.Ask asks.Consume; events = events; computed = 0 }))) [
+      | true ↦ skips (proceed_to-begins works (record old { works = works }))
+      | false ↦ record { least = omega arith; most = omega arith }
+    ]
+  where
+    skips : BeginsFrom works (proceed (record w { works = works; stage = Looking })) → Begins (record w { works = Tried tip frame until made crossing events ∷ works; stage = Looking }) (Here a) (led_by events (proceed (record w { works = works; stage = Looking })))
+    skips b =
+        let same = b.same in
+        let none = b.none in
+        record { least = omega arith; most = omega arith }
+
+settled-begins : (own : Bool) (after : Tip) (reply : Reply) (consumed : Bool) (w : Walk) → Begins (record w { stage = Settling own after }) reply (settled own after consumed (record w { stage = Settling own after }))
+settled-begins false after reply consumed w =
+    from-begins (record w { stage = Settling false after }) reply (proceed (record w { stage = Ready; tip = after }))
+    (proceed_to-begins w.works (record w { stage = Ready; tip = after }))
+settled-begins true after reply consumed w =
+    let old : Walk = record w { stage = Settling true after } in
+    elim (not consumed && not (has_none w.works)) as
+    (λ b. Begins old reply (cond b (record { walk = record old { stage = Ready; tip = after }; says = says.Ask asks.Begin; events = []; computed = 0 }) (proceed (record old { stage = Ready; tip = after })))) [
+      | true ↦ record { least = omega arith; most = omega arith }
+      | false ↦
+          from-begins old reply (proceed (record old { stage = Ready; tip = after }))
+          (proceed_to-begins w.works (record old { stage = Ready; tip = after }))
+    ]
+
+moved_at-begins : (attempt : List Val → Tip → Attempt) (stage : Stage) (reply : Reply) (w : Walk) → LooksAhead stage w.works → stage ≢ Broken → Fits attempt (record w { stage = stage }) stage reply → Begins (record w { stage = stage }) reply (moved_at stage reply (record w { stage = stage }))
+moved_at-begins attempt Ready reply w h live fits =
+    from-begins (record w { stage = Ready }) reply (proceed (record w { stage = Ready })) (proceed_to-begins w.works (record w { stage = Ready }))
+moved_at-begins attempt Looking NoReply w h live fits = absurd fits
+moved_at-begins attempt Looking (Here a) w h live fits = found_first-begins a w.works w h
+moved_at-begins attempt Looking Nothing w h live fits = own_first-begins w.works w h
+moved_at-begins attempt Looking (Consumed b) w h live fits = absurd fits
+moved_at-begins attempt (Settling own after) reply w h live fits =
+    settled-begins own after reply (was_consumed reply) w
+moved_at-begins attempt Broken reply w h live fits = absurd (live refl)
+
+-- a begin for each work that renews, and at most one more for each own attempt
+pub moved_begins : (attempt : List Val → Tip → Attempt) (w : Walk) (reply : Reply) → LooksAhead w.stage w.works → w.stage ≢ Broken → Fits attempt w w.stage reply → Begins w reply (moved w reply)
+moved_begins attempt w reply h live fits = moved_at-begins attempt w.stage reply w h live fits

@@ -1,5 +1,5 @@
 -- A run as the list of its works.
-use Rattle.std.specs.Prelude.{ℕ, Bool, List, [], ◌∷◌, ◌++◌, ◌+◌}
+use Rattle.std.specs.Prelude.{ℕ, Bool, true, false, List, [], ◌∷◌, ◌++◌, ◌+◌}
 use Rattle.ams_value.specs.declared.val.Val.{Val}
 use Rattle.step_data.specs.declared.tip.Tip.{Tip}
 use Rattle.step_data.specs.declared.tip.Attempt.{Attempt}
@@ -78,3 +78,13 @@ abbrev pub attempts_in : List Work → ℕ
 attempts_in [] = 0
 attempts_in (Worked kind events renews standing ∷ works) = attempts_in works
 attempts_in (Tried tip frame until made crossing events ∷ works) = attempts_in works + 1
+
+-- from how many of the works the attempts begin anew
+abbrev pub renewal_of : Bool → ℕ
+renewal_of false = 0
+renewal_of true = 1
+
+abbrev pub renewals_in : List Work → ℕ
+renewals_in [] = 0
+renewals_in (Worked kind events renews standing ∷ works) = renewal_of renews + renewals_in works
+renewals_in (Tried tip frame until made crossing events ∷ works) = renewals_in works

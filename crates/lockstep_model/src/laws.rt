@@ -15,7 +15,7 @@ ghost use Rattle.lockstep_model.specs.CrossingLaws.{LiesWithin, CrossesAt, searc
 ghost use Rattle.lockstep_model.specs.Lockstep.{Place, lockstep, locate};
 ghost use Rattle.lockstep_model.specs.Rising.{RisesAbove, step_times};
 ghost use Rattle.lockstep_model.specs.StreamLaws.{Extends};
-ghost use Rattle.lockstep_model.specs.Walk.{Walk, Reply, Broken, Keeps, Costs, LooksAhead, Fits, moved};
+ghost use Rattle.lockstep_model.specs.Walk.{Walk, Reply, Broken, Keeps, Costs, Begins, LooksAhead, Fits, moved};
 
 /// The first attempts begin every longer list of attempts.
 #[tactic(auto, using(crate::specs::StreamLaws::stream_extends))]
@@ -62,4 +62,11 @@ pub fn moves_keep_the_run()
 pub fn moves_come_to_an_end()
     ensures { (attempt : List Val → Tip → Attempt) (w : Walk) (reply : Reply) →
         LooksAhead w.stage w.works → w.stage ≢ Broken → Fits attempt w w.stage reply → Costs w reply (moved w reply) }
+{}
+
+/// There is a begin for each work that renews, and at most one more for each own attempt.
+#[tactic(auto, using(crate::specs::WalkLaws::moved_begins))]
+pub fn begins_are_few()
+    ensures { (attempt : List Val → Tip → Attempt) (w : Walk) (reply : Reply) →
+        LooksAhead w.stage w.works → w.stage ≢ Broken → Fits attempt w w.stage reply → Begins w reply (moved w reply) }
 {}
