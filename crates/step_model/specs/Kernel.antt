@@ -4,14 +4,9 @@ use Rattle.step_data.specs.declared.event.Event.{Event}
 use Rattle.step_data.specs.declared.outcome.Refusal.{Refusal}
 use Rattle.step_data.specs.declared.outcome.Ran.{Ran}
 use Rattle.step_data.specs.declared.outcome.Ran.TheVariants.{Done, Refused}
+use Rattle.step_model.specs.declared.stage.Stage.{Stage}
+use Rattle.step_model.specs.declared.stage.Stage.TheVariants.{Unstarted, Going, Ended, Lost}
 use Rattle.step_model.specs.System.{System, Digital, Cycle}
-
--- not started yet; between two cycles; ended by a refusal; or without the memory that a call wanted
-pub data Stage : Type 0 where
-  Unstarted : Stage
-  Going : Stage
-  Ended : Refusal → Stage
-  Lost : Stage
 
 pub record KernelState : Type 0 where
   pub stage : Stage
@@ -20,9 +15,6 @@ pub record KernelState : Type 0 where
 abbrev pub stage_after : Ran → Stage
 stage_after (Done broke) = Going
 stage_after (Refused refusal) = Ended refusal
-
-abbrev pub state_after : Cycle → KernelState
-state_after c = record { stage = stage_after c.ran; digital = c.digital }
 
 -- nothing happens, and the answer is the refusal
 abbrev pub refused_again : Digital → Refusal → Cycle

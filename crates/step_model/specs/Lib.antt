@@ -1,3 +1,4 @@
-pub mod System
-pub mod Kernel
 pub mod Answers
+pub mod Kernel
+pub mod StepLaws
+pub mod System

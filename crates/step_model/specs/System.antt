@@ -86,15 +86,21 @@ pub record System : Type 0 where
 abbrev pub grown : Options → ℕ → ℕ → ℕ
 grown o h err = if nat_le (4 * err) o.ltol then min (2 * h) o.hmax else h
 
+abbrev pub accepted_by : Options → Tip → Landing → Attempt
+accepted_by o tip l =
+    record { end = end_of tip; kind = Accepted; x = l.x; next_h = grown o tip.h l.err; cause = no_cause }
+
+abbrev pub rejected_by : Tip → Cause → Attempt
+rejected_by tip c = record { end = end_of tip; kind = Rejected; x = tip.x; next_h = tip.h / 2; cause = c }
+
+abbrev pub failed_by : Tip → Cause → Attempt
+failed_by tip c = record { end = end_of tip; kind = Failed; x = tip.x; next_h = tip.h; cause = c }
+
 -- An attempt, by the step of the tip's size. One that was refused is tried again with half the step, unless that is
 -- below the least one.
 abbrev pub attempt_by : Options → Tip → Result Landing Cause → Attempt
-attempt_by o tip (Ok l) =
-    record { end = end_of tip; kind = Accepted; x = l.x; next_h = grown o tip.h l.err; cause = no_cause }
-attempt_by o tip (Err c) =
-    if nat_le o.hmin (tip.h / 2)
-    then record { end = end_of tip; kind = Rejected; x = tip.x; next_h = tip.h / 2; cause = c }
-    else record { end = end_of tip; kind = Failed; x = tip.x; next_h = tip.h; cause = c }
+attempt_by o tip (Ok l) = accepted_by o tip l
+attempt_by o tip (Err c) = if nat_le o.hmin (tip.h / 2) then rejected_by tip c else failed_by tip c
 
 -- the attempt from a tip under a frame
 unfoldable pub attempt : System → List Val → Tip → Attempt

@@ -1,7 +1,8 @@
 ghost use Rattle.std.specs.Prelude.{◌≡◌, ◌≢◌, ℕ, ◌+◌, ◌≤◌, ◌<◌, ◌||◌, ◌++◌, min, true, false, length, All, IsTrue, OnOk, OnErr, IfOk, IfSome, IsErr};
 ghost use Rattle.step_data.specs.declared.event.Event.{Event};
 ghost use Rattle.step_model.specs.System.{System, attempt as attempt_of, idle};
-ghost use Rattle.step_model.specs.Kernel.{KernelState, Stage, Unstarted, Going, Ended, Lost, state_after, cycle_of, AddsFront};
+ghost use Rattle.step_model.specs.Kernel.{KernelState, stage_after, cycle_of, AddsFront};
+ghost use Rattle.step_model.specs.declared.stage.Stage.TheVariants.{Unstarted, Going, Lost};
 ghost use Rattle.step_model.specs.Answers.{trial_answer, trial_point, settled_answer, settled_value, CanStep, IsStep};
 
 use fix_core::Tick;
@@ -100,7 +101,7 @@ pub trait Stepper<D: Design> {
 }
 
 /// The digital side: its cycles are functions of its state. After a refusal or want of memory every later call answers
-/// the same and adds nothing.
+/// the same and adds nothing; of the lists that it holds then nothing is said.
 pub trait Kernel<D: Design> {
     ghost state: { Self → KernelState };
 
@@ -109,11 +110,12 @@ pub trait Kernel<D: Design> {
         requires stage { (state self.old).stage ≡ Unstarted }
         requires point { length x.now ≡ D.system.unknowns }
         ensures ran { IfOk result (λ ran. ran ≡ (D.system.start x.now).ran) }
-        ensures state { OnOk result (state self.new ≡ state_after (D.system.start x.now)) }
+        ensures stage { OnOk result ((state self.new).stage ≡ stage_after (D.system.start x.now).ran) }
+        ensures digital { (state self.new).stage ≡ Going → (state self.new).digital ≡ (D.system.start x.now).digital }
         ensures events { OnOk result (out.new ≡ out.old ++ (D.system.start x.now).events) }
-        ensures printable { OnOk result (All (λ e. IsTrue (D.system.is_event e)) (D.system.start x.now).events) }
-        ensures time { OnOk result ((state self.new).digital.time ≡ 0) }
-        ensures domain { OnOk result ((state self.new).digital.timed ≡ false) }
+        ensures printable { All (λ e. IsTrue (D.system.is_event e)) out.old → All (λ e. IsTrue (D.system.is_event e)) out.new }
+        ensures time { (state self.new).stage ≡ Going → (state self.new).digital.time ≡ 0 }
+        ensures domain { (state self.new).stage ≡ Going → (state self.new).digital.timed ≡ false }
         ensures lost { OnErr result ((state self.new).stage ≡ Lost) }
         ensures front { OnErr result (AddsFront out.old out.new (D.system.start x.now).events) };
 
@@ -132,11 +134,12 @@ pub trait Kernel<D: Design> {
         requires domain { to_time ≡ true → (state self.old).digital.timed ≡ false }
         requires point { length x.now ≡ D.system.unknowns }
         ensures ran { IfOk result (λ ran. ran ≡ (cycle_of D.system (state self.old) t n x.now to_time).ran) }
-        ensures state { OnOk result (state self.new ≡ state_after (cycle_of D.system (state self.old) t n x.now to_time)) }
+        ensures stage { OnOk result ((state self.new).stage ≡ stage_after (cycle_of D.system (state self.old) t n x.now to_time).ran) }
+        ensures digital { (state self.new).stage ≡ Going → (state self.new).digital ≡ (cycle_of D.system (state self.old) t n x.now to_time).digital }
         ensures events { OnOk result (out.new ≡ out.old ++ (cycle_of D.system (state self.old) t n x.now to_time).events) }
-        ensures printable { OnOk result (All (λ e. IsTrue (D.system.is_event e)) (cycle_of D.system (state self.old) t n x.now to_time).events) }
-        ensures time { OnOk result ((state self.old).stage ≡ Going → (state self.new).digital.time ≡ t) }
-        ensures domain { OnOk result ((state self.old).stage ≡ Going → (state self.new).digital.timed ≡ ((state self.old).digital.timed || to_time)) }
+        ensures printable { All (λ e. IsTrue (D.system.is_event e)) out.old → All (λ e. IsTrue (D.system.is_event e)) out.new }
+        ensures time { (state self.new).stage ≡ Going → (state self.new).digital.time ≡ t }
+        ensures domain { (state self.new).stage ≡ Going → (state self.new).digital.timed ≡ ((state self.old).digital.timed || to_time) }
         ensures lost { OnErr result ((state self.new).stage ≡ Lost) }
         ensures front { OnErr result (AddsFront out.old out.new (cycle_of D.system (state self.old) t n x.now to_time).events) }
         ensures dead { (state self.old).stage ≡ Lost → IsErr result }
@@ -145,7 +148,7 @@ pub trait Kernel<D: Design> {
     /// The least time at which a transaction or a timeout stands.
     fn next_time(&self) -> Option<Tick>
         ensures value { result ≡ D.system.next_time (state self.now).digital }
-        ensures later { IfSome result (λ next. (state self.now).digital.time ≤ next) };
+        ensures later { (state self.now).stage ≡ Going → IfSome result (λ next. (state self.now).digital.time ≤ next) };
 
     /// The values that equations and their conditions read.
     fn frame(&self, out: &mut Frame)

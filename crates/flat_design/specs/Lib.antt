@@ -1,0 +1,4 @@
+pub mod Lists
+pub mod Reads
+pub mod Order
+pub mod Flat

@@ -1,0 +1,2 @@
+pub mod Subtype
+pub mod Expr

@@ -1,0 +1,9 @@
+pub mod Budgets
+pub mod Crossing
+pub mod CrossingLaws
+pub mod Lockstep
+pub mod Rising
+pub mod StreamLaws
+pub mod Walk
+pub mod WalkLaws
+pub mod Works

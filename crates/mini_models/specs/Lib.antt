@@ -1,0 +1,4 @@
+pub mod Mini
+pub mod Ramp
+pub mod Row
+pub mod Switch

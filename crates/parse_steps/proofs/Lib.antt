@@ -1,0 +1,9 @@
+pub mod Sets
+pub mod Covers
+pub mod Two
+pub mod Sound
+pub mod Steps
+pub mod KindSets
+pub mod Covering
+pub mod Sounding
+pub mod Answering

@@ -1,0 +1,8 @@
+//! What every rule of a parser is made of: a reader over tokens, why it stops, and what the partial calls answer.
+#![tactic(auto)]
+
+mod fault;
+mod reader;
+
+pub use fault::{ParseFault, fault_at};
+pub use reader::{Reader, Stop};
