@@ -1,3 +1,4 @@
 pub mod Vectors
 pub mod Times
 pub mod Powers
+pub mod Typed

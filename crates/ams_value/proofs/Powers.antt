@@ -1,11 +1,8 @@
 -- Powers, product by product.
-use Rattle.std.proofs.Common.{◌≡◌, ℕ, zero, suc, ◌+◌, ◌-◌, ◌*◌, ◌<◌, ◌≤◌, ℤ, pos, negsuc, ◌*ℤ◌, ◌<ℤ◌, ◌≤ℤ◌, Ok, Err, refl, sym, ap, ◌∙◌, add-one, arith}
-use Rattle.std.proofs.lemmas.Int.{ints, fits_signed_from_abs, unsigned_abs-mul}
-use Rattle.std.proofs.lemmas.Nat.{mul-le}
-use Rattle.std.specs.Prelude.{unsigned_abs, FitsSigned, Result}
-use Rattle.std.specs.Int.{w64}
+use Rattle.std.proofs.Common.{◌≡◌, ℕ, zero, suc, ◌+◌, ◌-◌, ◌<◌, ◌≤◌, ℤ, pos, negsuc, ◌*ℤ◌, ◌<ℤ◌, ◌≤ℤ◌, Ok, Err, refl, ◌∙◌, add-one, arith}
+use Rattle.std.proofs.lemmas.Int.{ints}
+use Rattle.std.specs.Prelude.{unsigned_abs, Result}
 use Rattle.fix_core.specs.declared.NumFault.{NumFault}
-use Rattle.fix_core.specs.Passes.{and_then}
 use Rattle.fix_core.specs.Fixed.{one, product_of}
 use Rattle.ams_value.specs.declared.fault.ValFault.{ValFault}
 use Rattle.ams_value.specs.declared.fault.ValFault.TheVariants.{Range, Overflow}

@@ -1,18 +1,17 @@
 -- Results in the ranges of INTEGER and TIME.
-use Rattle.std.proofs.Common.{◌≡◌, ℕ, zero, suc, ◌+◌, ◌-◌, ◌*◌, ◌/◌, ◌%◌, ◌<◌, ◌≤◌, ℤ, pos, negsuc, ◌*ℤ◌, neg_ℤ, ◌<ℤ◌, ◌≤ℤ◌, Ok, Err, refl, sym, ap, ◌∙◌, arith}
+use Rattle.std.proofs.Common.{◌≡◌, ℕ, zero, suc, ◌+◌, ◌*◌, ◌<◌, ◌≤◌, ℤ, pos, negsuc, ◌*ℤ◌, neg_ℤ, ◌<ℤ◌, Ok, Err, refl, sym, ap, ◌∙◌, arith}
 use Rattle.std.proofs.Math.Nat.{div-le_self}
 use Rattle.std.proofs.lemmas.Int.{ints, fits_signed_from_abs, unsigned_abs-mul}
 use Rattle.std.proofs.lemmas.Nat.{mul-le}
 use Rattle.std.specs.Prelude.{unsigned_abs, int_div, int_rem, FitsSigned, Result}
 use Rattle.std.specs.Int.{w64, w128}
 use Rattle.std.specs.Int.{int_rem_euclid}
-use Rattle.fix_core.specs.Rounding.{rnd, nearest, signed, signs_differ}
+use Rattle.fix_core.specs.Rounding.{rnd, nearest, signs_differ}
 use Rattle.fix_core.specs.Fixed.{one}
 use Rattle.fix_core.specs.Laws.{rnd_is, nearest_high, unsigned_abs-signed}
 use Rattle.ams_value.specs.declared.fault.ValFault.{ValFault}
 use Rattle.ams_value.specs.declared.fault.ValFault.TheVariants.{Range, Overflow, DivideByZero}
 use Rattle.ams_value.specs.declared.val.Val.{Val}
-use Rattle.ams_value.specs.declared.val.Val.TheVariants.{Int, Time}
 use Rattle.ams_value.specs.Values.{integer_ranged, time_ranged, divided_by, time_by_real, time_over_real, integer_quotient, time_quotient, integer_modulus, integer_remainder, modulus, integer_of}
 
 pub time_overflows : (z : ℤ) → 1000000000000000000 < unsigned_abs z → time_ranged z ≡ Err Overflow
@@ -34,11 +33,11 @@ product_is t r = refl
 
 pub ruleset products = (product_past, product_is)
 
-by_zero : (d : ℤ) (r : Result Val ValFault) → unsigned_abs d ≡ 0 → divided_by d r ≡ Err DivideByZero
+pub by_zero : (d : ℤ) (r : Result Val ValFault) → unsigned_abs d ≡ 0 → divided_by d r ≡ Err DivideByZero
 unfolding divided_by
 by_zero d r h = grind arith
 
-by_some : (d : ℤ) (r : Result Val ValFault) → 0 < unsigned_abs d → divided_by d r ≡ r
+pub by_some : (d : ℤ) (r : Result Val ValFault) → 0 < unsigned_abs d → divided_by d r ≡ r
 unfolding divided_by
 by_some d r h = grind arith
 

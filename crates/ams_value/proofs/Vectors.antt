@@ -1,11 +1,10 @@
 -- Bits of vectors.
-use Rattle.std.proofs.Common.{◌≡◌, ℕ, zero, suc, ◌+◌, ◌-◌, ◌*◌, ◌/◌, ◌%◌, ◌^◌, ◌<◌, ◌≤◌, ℤ, pos, negsuc, ◌<ℤ◌, ◌≤ℤ◌, true, false, Ok, Err, inl, inr, rules, refl, sym, ap, ◌∙◌, arith}
+use Rattle.std.proofs.Common.{◌≡◌, ℕ, zero, suc, ◌+◌, ◌-◌, ◌*◌, ◌/◌, ◌%◌, ◌^◌, ◌<◌, ◌≤◌, ℤ, pos, negsuc, ◌<ℤ◌, ◌≤ℤ◌, true, false, Ok, inl, inr, rules, refl, sym, ap, ◌∙◌, arith}
 use Rattle.std.proofs.lemmas.Nat.{and_le_l, or_lt, xor_lt, one_shl, mod_below, div_below, mul-le, pow-add}
 use Rattle.std.proofs.lemmas.Bool.{cases_eq, cases_lt}
 use Rattle.std.proofs.lemmas.Int.{ints}
 use Rattle.std.proofs.Math.Nat.{pow-le-pow_right, div-eq_of_lt, mod-eq_of_lt, div-le_self}
-use Rattle.std.specs.Prelude.{min, unsigned_abs, bit_and, bit_or, bit_xor, nat_eq, if◌then◌else◌, Option, Some, None, IsSome}
-use Rattle.ams_value.specs.declared.value_type.ValueType.{ValueType}
+use Rattle.std.specs.Prelude.{min, unsigned_abs, bit_and, bit_or, bit_xor, IsSome}
 use Rattle.ams_value.specs.declared.value_type.ValueType.TheVariants.{BitVector}
 use Rattle.ams_value.specs.declared.op.Op2.{Op2}
 use Rattle.ams_value.specs.declared.op.Op2.TheVariants.{Sll, Srl, Sla, Sra, Rol, Ror}
@@ -25,6 +24,8 @@ pub one_at : (n : ℕ) → n < 64 → 1 * 2 ^ n % 18446744073709551616 ≡ 2 ^ n
 one_at n h = one_shl n 64 h
 
 pub ruleset ones = (one_at, power_pos)
+
+pub ruleset ranges = (one_at)
 
 pub and_below : (n a b : ℕ) → a < 2 ^ n → bit_and a b ≤ all_ones n
 unfolding all_ones

@@ -1,5 +1,5 @@
--- The types of values, and the operators' types (IEEE 1076, 9.2).
-use Rattle.std.specs.Prelude.{ℕ, ◌+◌, ◌<◌, ◌≤◌, ◌^◌, ℤ, unsigned_abs, Bool, nat_eq, nat_le, if◌then◌else◌, Option, Some, None, IsSome}
+-- The types of values, and the operators' types (IEEE 1076-2008, 9.2).
+use Rattle.std.specs.Prelude.{ℕ, ◌+◌, ◌<◌, ◌≤◌, ◌^◌, unsigned_abs, nat_eq, nat_le, if◌then◌else◌, Option, Some, None, IsSome}
 use Rattle.ams_value.specs.declared.op.Op1.{Op1}
 use Rattle.ams_value.specs.declared.op.Op1.TheVariants.{Plus, Minus, Abs, Not}
 use Rattle.ams_value.specs.declared.op.Op2.{Op2}
@@ -19,6 +19,10 @@ type_of (val.Time t) = Time
 type_of (val.Enum number position) = Enumeration number
 type_of (val.Bits length content) = BitVector length
 
+-- at most 64 elements, and no bit beyond them
+abbrev pub IsVector : ℕ → ℕ → Type 0
+IsVector length content = (length ≤ 64) × (content < 2 ^ length)
+
 -- what a value holds lies in the range of its type
 abbrev pub IsValue : Val → Type 0
 IsValue (val.Bool b) = Unit {0}
@@ -27,7 +31,7 @@ IsValue (val.Int i) = unsigned_abs i ≤ 2147483647
 IsValue (val.Real r) = unsigned_abs r ≤ 1000000000000000000000000
 IsValue (val.Time t) = unsigned_abs t ≤ 1000000000000000000
 IsValue (val.Enum number position) = Unit {0}
-IsValue (val.Bits length content) = (length ≤ 64) × (content < 2 ^ length)
+IsValue (val.Bits length content) = IsVector length content
 
 -- ---- the types of results, by the types of the operands
 

@@ -2,6 +2,7 @@
 ghost use Rattle.std.specs.Prelude.{◌≡◌};
 ghost use Rattle.ams_value.specs.Types.{IsTypedUnary, IsTypedBinary};
 ghost use Rattle.ams_value.specs.Values.{unary_of, binary_of, negated, magnitude_of, inverted};
+ghost use Rattle.ams_value.specs.Results.{ResultsAreTyped, LeftDecides};
 
 use crate::arithmetic::{add, divide, modulo, multiply, remainder, subtract};
 use crate::compare::{equal, less};
@@ -93,3 +94,10 @@ pub fn binary(op: Op2, a: Val, b: Val) -> Result<Val, ValFault>
         Op2::Power => power(a, b),
     }
 }
+
+/// The laws of results. They are proved, and do nothing when they run.
+#[tactic(auto, using(crate::proofs::Typed::results))]
+pub fn results_are_typed()
+    ensures typed { ResultsAreTyped }
+    ensures decided { LeftDecides }
+{}

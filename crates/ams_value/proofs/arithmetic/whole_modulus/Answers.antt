@@ -1,4 +1,4 @@
-use Rattle.std.proofs.Common.{◌≡◌, pos, neg_ℤ, ◌<ℤ◌, ◌∙◌, ap, arith}
+use Rattle.std.proofs.Common.{◌≡◌, neg_ℤ, ◌∙◌, ap, arith}
 use Rattle.std.proofs.lemmas.Int.{ints, to_z-of_z}
 use Rattle.std.specs.Int.{int_rem_euclid}
 use Rattle.ams_value.specs.Values.{integer_ranged}
