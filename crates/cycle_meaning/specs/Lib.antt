@@ -1,0 +1,6 @@
+pub mod Work
+pub mod World
+pub mod Statements
+pub mod Processes
+pub mod Cycles
+pub mod Worked

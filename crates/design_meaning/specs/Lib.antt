@@ -1,0 +1,9 @@
+pub mod Faults
+pub mod Readings
+pub mod Value
+pub mod Equations
+pub mod Reading
+pub mod Newton
+pub mod Steps
+pub mod Laws
+pub mod Worked

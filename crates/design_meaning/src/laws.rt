@@ -1,0 +1,21 @@
+//! Laws of the definitions. Each is proved, and does nothing when it runs.
+ghost use Rattle.design_meaning.specs.Laws.{SumsHaveTheBranchEnds, SetsDifferInAugmentation};
+ghost use Rattle.design_meaning.specs.Worked.{WorkedSolutions};
+
+/// The sum of the currents at a node has a term for each branch end.
+#[tactic(auto, using(crate::proofs::SetLaws::sums))]
+pub fn sums_have_the_branch_ends()
+    ensures { SumsHaveTheBranchEnds }
+{}
+
+/// The three sets differ in their augmentation equations alone.
+#[tactic(auto, using(crate::proofs::SetLaws::sets))]
+pub fn sets_differ_in_augmentation()
+    ensures { SetsDifferInAugmentation }
+{}
+
+/// Solutions of small designs, worked by hand.
+#[tactic(auto, using(crate::proofs::WorkedRows::solutions))]
+pub fn worked_solutions()
+    ensures { WorkedSolutions }
+{}
