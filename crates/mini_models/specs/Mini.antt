@@ -177,3 +177,8 @@ pub record RunsAs (sys : System) (plan : Plan) : Type 0 where
   pub frame : sys.frame ≡ signals
   pub thresholds : sys.thresholds ≡ no_thresholds
   pub breaks : sys.breaks ≡ no_elements
+
+-- the events of the start and of a cycle at time 0 in which DOMAIN changes
+abbrev pub called_events : Plan → List Event
+called_events plan =
+    (cycled plan (started plan (pos 0 ∷ [])).digital 0 1 (pos 0 ∷ []) true).events

@@ -62,12 +62,12 @@ fn give(out: &mut EventList, wanted: bool, event: Event) -> Result<(), AllocErro
 
 impl<D: Design> Switch<D> {
     /// A kernel that isn't started.
-    pub fn new(alloc: Global, plan: Plan) -> Switch<D>
-        requires { RunsAs D.system plan }
+    pub fn new(alloc: Global, plan: &Plan) -> Switch<D>
+        requires { RunsAs D.system plan.now }
         ensures { result.stage ≡ Unstarted }
     {
         Switch {
-            plan,
+            plan: *plan,
             stage: Stage::Unstarted,
             time: Tick::new(0).unwrap(),
             timed: false,

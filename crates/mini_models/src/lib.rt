@@ -2,11 +2,15 @@
 //! show that what the mixed cycle asks of both sides can be met.
 #![tactic(auto)]
 
+pub mod calls;
 pub mod kernel;
 pub mod plan;
 pub mod row;
 pub mod stepper;
+#[cfg(test)]
+mod tests;
 
+pub use calls::first_events;
 pub use kernel::Switch;
 pub use plan::{Change, Plan};
 pub use stepper::Level;

@@ -69,12 +69,12 @@ impl Plan {
 
 impl<D: Design> Level<D> {
     /// A solver that has made nothing yet.
-    pub fn new(plan: Plan) -> Level<D>
-        requires { SolvesAs D.system plan }
+    pub fn new(plan: &Plan) -> Level<D>
+        requires { SolvesAs D.system plan.now }
         ensures { result ≡ 0 }
     {
         Level {
-            plan,
+            plan: *plan,
             made: 0,
             design: PhantomData,
         }
