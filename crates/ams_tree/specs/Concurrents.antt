@@ -5,6 +5,8 @@ use Rattle.ams_token.specs.declared.word.Word.TheVariants as w
 use Rattle.ams_token.specs.declared.mark.Mark.TheVariants as m
 use Rattle.ams_tree.specs.declared.expression.Name.{Name}
 use Rattle.ams_tree.specs.declared.expression.Expr.{Expr}
+use Rattle.ams_tree.specs.declared.declaration.ProcessDeclaration.{ProcessDeclaration}
+use Rattle.ams_tree.specs.declared.sequential.Seq.{Seq}
 use Rattle.ams_tree.specs.declared.sequential.WaveformElement.{WaveformElement}
 use Rattle.ams_tree.specs.declared.concurrent.ConditionalWaveform.{ConditionalWaveform}
 use Rattle.ams_tree.specs.declared.concurrent.Equation.{Equation}
@@ -19,7 +21,7 @@ use Rattle.ams_tree.specs.Rule.{Rule, pure, terminal, one, optional, present, �
 use Rattle.ams_tree.specs.Terminals.{mark, word, name_of}
 use Rattle.ams_tree.specs.Expressions.{last, allows, below, expression, simple_expression}
 use Rattle.ams_tree.specs.Declarations.{process_declaration}
-use Rattle.ams_tree.specs.Statements.{name_list, delay_mechanism, waveform, assertion, break_elements, condition, choices, statement}
+use Rattle.ams_tree.specs.Statements.{name_list, delay_mechanism, waveform, assertion, break_elements, condition, choices, ending, statement}
 
 -- the waveforms so far, with their conditions, and the last one, which then gets a condition
 abbrev pub when_else : List ConditionalWaveform × List WaveformElement → Expr × List WaveformElement → List ConditionalWaveform × List WaveformElement
@@ -49,17 +51,23 @@ module _ (limit depth : ℕ) where
     wave ← waveform limit depth
     pure (x, wave)
 
+  -- wave { "when" expr "else" wave } [ "when" expr ]
+  unfoldable pub conditional_waveforms : Rule (List ConditionalWaveform × List WaveformElement × Option Expr)
+  conditional_waveforms = do
+    first ← waveform limit depth
+    waves ← repeated when_else otherwise ([], first)
+    x ← condition limit depth
+    pure (waves.0, waves.1, x)
+
   -- id "<=" [ delay ] wave { "when" expr "else" wave } [ "when" expr ] ";"
   unfoldable pub concurrent_assignment : Rule ConcurrentStatement
   concurrent_assignment = do
     target ← one name_of
     one (mark m.LessEqual)
     how ← optional (delay_mechanism limit depth)
-    first ← waveform limit depth
-    waves ← repeated when_else otherwise ([], first)
-    x ← condition limit depth
+    waves ← conditional_waveforms
     one (mark m.Semicolon)
-    pure (conc.Assign target how waves.0 waves.1 x)
+    pure (conc.Assign target how waves.0 waves.1 waves.2)
 
   -- "break" [ elem { "," elem } ] [ "on" name { "," name } ] [ "when" expr ] ";"
   unfoldable pub concurrent_break : Rule ConcurrentStatement
@@ -116,21 +124,22 @@ module _ (limit depth : ℕ) where
     first ← simultaneous_branch
     all ← repeated last (one (word w.Elsif) >> simultaneous_branch) (first ∷ [])
     other ← optional (one (word w.Else) >> equations)
-    one (word w.End)
-    one (word w.Use)
-    one (mark m.Semicolon)
+    ending w.Use
     pure (conc.If place all other)
+
+  -- salt { salt }
+  unfoldable pub simultaneous_alternatives : Rule (List SimultaneousAlternative)
+  simultaneous_alternatives = do
+    first ← simultaneous_alternative
+    repeated last simultaneous_alternative (first ∷ [])
 
   -- expr "use" salt { salt } "end" "case" ";"
   unfoldable pub simultaneous_case : Place → Rule ConcurrentStatement
   simultaneous_case place = do
     x ← expression limit depth
     one (word w.Use)
-    first ← simultaneous_alternative
-    all ← repeated last simultaneous_alternative (first ∷ [])
-    one (word w.End)
-    one (word w.Case)
-    one (mark m.Semicolon)
+    all ← simultaneous_alternatives
+    ending w.Case
     pure (conc.Case place x all)
 
 -- "(" name { "," name } ")"
@@ -142,19 +151,31 @@ sensitivity limit depth = do
   pure all
 
 module _ (limit depth : ℕ) where
-  -- [ "(" name { "," name } ")" ] [ "is" ] { pdecl } "begin" { seq } "end" "process" [ id ] ";"
-  unfoldable pub process_parts : Place → Rule ConcurrentStatement
-  process_parts at = do
+  -- [ "(" name { "," name } ")" ] [ "is" ] { pdecl } "begin"
+  unfoldable pub process_head : Rule (Option (List Expr) × Bool × List ProcessDeclaration)
+  process_head = do
     names ← optional (sensitivity limit depth)
     is ← present (one (word w.Is))
     locals ← repeated last (process_declaration limit depth) []
     one (word w.Begin)
+    pure (names, is, locals)
+
+  -- { seq } "end" "process" [ id ] ";"
+  unfoldable pub process_body : Rule (List Seq × Option Name)
+  process_body = do
     all ← repeated last (statement limit depth) []
     one (word w.End)
     one (word w.Process)
     name ← optional (one name_of)
     one (mark m.Semicolon)
-    pure (conc.Process (record { place = at; sensitivity = names; word_is = is; declarations = locals; body = all; end = name }))
+    pure (all, name)
+
+  -- what stands behind "process"
+  unfoldable pub process_parts : Place → Rule ConcurrentStatement
+  process_parts at = do
+    x ← process_head
+    y ← process_body
+    pure (conc.Process (record { place = at; sensitivity = x.0; word_is = x.1; declarations = x.2; body = y.0; end = y.1 }))
 
 module _ (limit depth : ℕ) where
   -- id [ "." id ], behind a first id: the library and the entity
@@ -169,17 +190,26 @@ module _ (limit depth : ℕ) where
     one (mark m.RightParen)
     pure name
 
-  -- "entity" id [ "." id ] [ "(" id ")" ] [ "generic" "map" "(" assoc ")" ] [ "port" "map" "(" assoc ")" ] ";"
-  unfoldable pub instance : Rule ConcurrentStatement
-  instance = do
+  -- "entity" id [ "." id ] [ "(" id ")" ]
+  unfoldable pub entity_aspect : Rule (Place × (Option Name × Name) × Option Name)
+  entity_aspect = do
     at ← one (word w.Entity)
     first ← one name_of
     names ← entity_name first
     of ← optional architecture_name
+    pure (at, names, of)
+
+  -- [ "generic" "map" "(" assoc ")" ] [ "port" "map" "(" assoc ")" ] ";", behind the entity
+  unfoldable pub maps : Place × (Option Name × Name) × Option Name → Rule ConcurrentStatement
+  maps aspect = do
     xs ← optional (one (word w.Generic) >> map_aspect limit (below depth) (allows depth))
     ys ← optional (one (word w.Port) >> map_aspect limit (below depth) (allows depth))
     one (mark m.Semicolon)
-    pure (conc.Instance (record { place = at; library = names.0; entity = names.1; architecture = of; generics = xs; ports = ys }))
+    pure (conc.Instance (record { place = aspect.0; library = aspect.1.0; entity = aspect.1.1; architecture = aspect.2; generics = xs; ports = ys }))
+
+  -- "entity" id [ "." id ] [ "(" id ")" ] [ "generic" "map" "(" assoc ")" ] [ "port" "map" "(" assoc ")" ] ";"
+  unfoldable pub instance : Rule ConcurrentStatement
+  instance = entity_aspect >>= maps
 
   -- a statement that may stand without a label
   unfoldable pub unlabelled : Rule ConcurrentStatement

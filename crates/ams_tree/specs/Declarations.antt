@@ -1,6 +1,7 @@
 -- The grammar of declarations (IEEE 1076 and 1076.1, as far as the profile has them).
 use Rattle.std.specs.Prelude.{ℕ, List, [], ◌∷◌, Option, Some, None}
 use Rattle.ams_token.specs.declared.token.Place.{Place}
+use Rattle.ams_token.specs.declared.word.Word.{Word}
 use Rattle.ams_token.specs.declared.word.Word.TheVariants as w
 use Rattle.ams_token.specs.declared.mark.Mark.TheVariants as m
 use Rattle.ams_tree.specs.declared.expression.Name.{Name}
@@ -26,6 +27,14 @@ more_names first = repeated last (one (mark m.Comma) >> one name_of) (first ∷ 
 -- id { "," id }
 unfoldable pub names : Rule (List Name)
 names = one name_of >>= more_names
+
+-- ids ":"
+unfoldable pub names_colon : Rule (List Name)
+names_colon = names >>= (λ ids. one (mark m.Colon) >> pure ids)
+
+-- a word, and the name behind it
+unfoldable pub name_after : Word → Rule Name
+name_after x = one (word x) >> one name_of
 
 -- with this many operators, calls and attributes, and levels, at most
 module _ (limit depth : ℕ) where
@@ -71,8 +80,7 @@ module _ (limit depth : ℕ) where
   unfoldable pub generic : Rule Generic
   generic = do
     place ← optional (one (word w.Constant))
-    ids ← names
-    one (mark m.Colon)
+    ids ← names_colon
     mode ← present (one (word w.In))
     type ← indication
     value ← default limit depth
@@ -81,8 +89,7 @@ module _ (limit depth : ℕ) where
   -- ids ":" [ "in" | "out" ] type [ ":=" expr ]
   unfoldable pub signal_port : Option Place → Rule Port
   signal_port place = do
-    ids ← names
-    one (mark m.Colon)
+    ids ← names_colon
     mode ← optional (one mode_of)
     type ← indication
     value ← default limit depth
@@ -92,14 +99,12 @@ module _ (limit depth : ℕ) where
   unfoldable pub port_declaration : Rule Port
   port_declaration = (do
     place ← one (word w.Terminal)
-    ids ← names
-    one (mark m.Colon)
+    ids ← names_colon
     nature ← one name_of
     pure (port.Terminal place ids nature))
       <|> ((do
         place ← one (word w.Quantity)
-        ids ← names
-        one (mark m.Colon)
+        ids ← names_colon
         mode ← optional (one mode_of)
         type ← indication
         pure (port.Quantity place ids mode type))
@@ -109,8 +114,7 @@ module _ (limit depth : ℕ) where
   unfoldable pub signal_declaration : Rule Declaration
   signal_declaration = do
     place ← one (word w.Signal)
-    ids ← names
-    one (mark m.Colon)
+    ids ← names_colon
     type ← indication
     value ← default limit depth
     one (mark m.Semicolon)
@@ -119,8 +123,7 @@ module _ (limit depth : ℕ) where
   -- ids ":" type ":=" expr ";"
   unfoldable pub constant_parts : Rule (List Name × SubtypeIndication × Expr)
   constant_parts = do
-    ids ← names
-    one (mark m.Colon)
+    ids ← names_colon
     type ← indication
     one (mark m.Assign)
     value ← expression limit depth
@@ -131,8 +134,7 @@ module _ (limit depth : ℕ) where
   unfoldable pub terminal_declaration : Rule Declaration
   terminal_declaration = do
     place ← one (word w.Terminal)
-    ids ← names
-    one (mark m.Colon)
+    ids ← names_colon
     nature ← one name_of
     one (mark m.Semicolon)
     pure (declare.Terminal place ids nature)
@@ -140,24 +142,22 @@ module _ (limit depth : ℕ) where
   -- "through" id [ "to" id ] ";", or id [ "to" id ] ";" where no through quantities stand before it
   unfoldable pub across_ends : Place → List Name → Option (List Name) → Name → Rule Declaration
   across_ends place across through from = do
-    to ← optional (one (word w.To) >> one name_of)
+    to ← optional (name_after w.To)
     one (mark m.Semicolon)
     pure (declare.Across place across through from to)
 
   -- "across" [ ids "through" ] id [ "to" id ] ";"
   unfoldable pub across_branch : Place → List Name → Rule Declaration
   across_branch place ids = do
-    one (word w.Across)
-    first ← one name_of
-    (more_names first >>= (λ through. one (word w.Through) >> (one name_of >>= across_ends place ids (Some through))))
+    first ← name_after w.Across
+    (more_names first >>= (λ through. name_after w.Through >>= across_ends place ids (Some through)))
         <|> across_ends place ids None first
 
   -- "through" id [ "to" id ] ";"
   unfoldable pub through_branch : Place → List Name → Rule Declaration
   through_branch place ids = do
-    one (word w.Through)
-    from ← one name_of
-    to ← optional (one (word w.To) >> one name_of)
+    from ← name_after w.Through
+    to ← optional (name_after w.To)
     one (mark m.Semicolon)
     pure (declare.Through place ids from to)
 
@@ -177,20 +177,30 @@ module _ (limit depth : ℕ) where
     ids ← names
     free_quantity place ids <|> (across_branch place ids <|> through_branch place ids)
 
+  -- "across" id "through" id "reference" ";"
+  unfoldable pub rest_of_nature : Place → Name → Name → Rule Declaration
+  rest_of_nature place name across = do
+    through ← name_after w.Across
+    reference ← name_after w.Through
+    one (word w.Reference)
+    one (mark m.Semicolon)
+    pure (declare.Nature place name across through reference)
+
   -- "nature" id "is" id "across" id "through" id "reference" ";"
   unfoldable pub nature_declaration : Rule Declaration
   nature_declaration = do
     place ← one (word w.Nature)
     name ← one name_of
-    one (word w.Is)
-    across ← one name_of
-    one (word w.Across)
-    through ← one name_of
-    one (word w.Through)
-    reference ← one name_of
-    one (word w.Reference)
-    one (mark m.Semicolon)
-    pure (declare.Nature place name across through reference)
+    across ← name_after w.Is
+    rest_of_nature place name across
+
+  -- "(" ids ")"
+  unfoldable pub enumerated : Rule (List Name)
+  enumerated = do
+    terminal (allows depth) 0 (mark m.LeftParen)
+    literals ← names
+    one (mark m.RightParen)
+    pure literals
 
   -- "type" id "is" "(" ids ")" ";"
   unfoldable pub enumeration_declaration : Rule Declaration
@@ -198,9 +208,7 @@ module _ (limit depth : ℕ) where
     place ← one (word w.Type)
     name ← one name_of
     one (word w.Is)
-    terminal (allows depth) 0 (mark m.LeftParen)
-    literals ← names
-    one (mark m.RightParen)
+    literals ← enumerated
     one (mark m.Semicolon)
     pure (declare.Enumeration place name literals)
 
@@ -228,8 +236,7 @@ module _ (limit depth : ℕ) where
   unfoldable pub variable_declaration : Rule ProcessDeclaration
   variable_declaration = do
     place ← one (word w.Variable)
-    ids ← names
-    one (mark m.Colon)
+    ids ← names_colon
     type ← indication
     value ← default limit depth
     one (mark m.Semicolon)

@@ -1,5 +1,6 @@
 -- The grammar of a design file (IEEE 1076, as far as the profile has it).
-use Rattle.std.specs.Prelude.{ℕ, true, false, List, [], ◌∷◌}
+use Rattle.std.specs.Prelude.{ℕ, Bool, true, false, List, [], ◌∷◌, Option}
+use Rattle.ams_token.specs.declared.word.Word.{Word}
 use Rattle.ams_token.specs.declared.word.Word.TheVariants as w
 use Rattle.ams_token.specs.declared.mark.Mark.TheVariants as m
 use Rattle.ams_tree.specs.declared.expression.Name.{Name}
@@ -12,7 +13,7 @@ use Rattle.ams_tree.specs.declared.design.DesignFile.{DesignFile}
 use Rattle.ams_tree.specs.Rule.{Rule, pure, terminal, one, optional, present, ◌>>=◌, ◌>>◌, ◌<|>◌, repeated}
 use Rattle.ams_tree.specs.Terminals.{mark, word, name_of}
 use Rattle.ams_tree.specs.Expressions.{last, allows, below}
-use Rattle.ams_tree.specs.Declarations.{names, generic, port_declaration, declaration}
+use Rattle.ams_tree.specs.Declarations.{names, name_after, generic, port_declaration, declaration}
 use Rattle.ams_tree.specs.Concurrents.{concurrent}
 
 -- id "."
@@ -26,6 +27,15 @@ path = do
   front ← repeated last prefix_name (first ∷ [])
   (one name_of >>= (λ name. pure (record { names = last front name; all = false })))
       <|> (one (word w.All) >> pure (record { names = front; all = true }))
+
+-- "end" [ this word ] [ id ] ";"
+unfoldable pub unit_end : Word → Rule (Bool × Option Name)
+unit_end x = do
+  one (word w.End)
+  said ← present (one (word x))
+  again ← optional (one name_of)
+  one (mark m.Semicolon)
+  pure (said, again)
 
 -- "library" ids ";"
 unfoldable pub library_clause : Rule DesignUnit
@@ -42,13 +52,25 @@ use_clause = do
 
 -- with this many operators, calls and attributes, and levels, at most
 module _ (limit depth : ℕ) where
+  -- gen { ";" gen }
+  unfoldable pub generics : Rule (List Generic)
+  generics = do
+    first ← generic limit depth
+    repeated last (one (mark m.Semicolon) >> generic limit depth) (first ∷ [])
+
+  -- port { ";" port }
+  unfoldable pub ports : Rule (List Port)
+  ports = do
+    first ← port_declaration limit depth
+    repeated last (one (mark m.Semicolon) >> port_declaration limit depth) (first ∷ [])
+
+module _ (limit depth : ℕ) where
   -- "generic" "(" gen { ";" gen } ")" ";"
   unfoldable pub generic_clause : Rule (List Generic)
   generic_clause = do
     one (word w.Generic)
     terminal (allows depth) 0 (mark m.LeftParen)
-    first ← generic limit (below depth)
-    all ← repeated last (one (mark m.Semicolon) >> generic limit (below depth)) (first ∷ [])
+    all ← generics limit (below depth)
     one (mark m.RightParen)
     one (mark m.Semicolon)
     pure all
@@ -58,42 +80,46 @@ module _ (limit depth : ℕ) where
   port_clause = do
     one (word w.Port)
     terminal (allows depth) 0 (mark m.LeftParen)
-    first ← port_declaration limit (below depth)
-    all ← repeated last (one (mark m.Semicolon) >> port_declaration limit (below depth)) (first ∷ [])
+    all ← ports limit (below depth)
     one (mark m.RightParen)
     one (mark m.Semicolon)
     pure all
 
-  -- "entity" id "is" [ generics ] [ ports ] "end" [ "entity" ] [ id ] ";"
-  unfoldable pub entity : Rule DesignUnit
-  entity = do
+  -- "entity" id "is"
+  unfoldable pub entity_head : Rule Name
+  entity_head = do
     one (word w.Entity)
     id ← one name_of
     one (word w.Is)
+    pure id
+
+  -- "entity" id "is" [ generics ] [ ports ] "end" [ "entity" ] [ id ] ";"
+  unfoldable pub entity : Rule DesignUnit
+  entity = do
+    id ← entity_head
     xs ← generic_clause <|> pure []
     ys ← port_clause <|> pure []
-    one (word w.End)
-    said ← present (one (word w.Entity))
-    again ← optional (one name_of)
-    one (mark m.Semicolon)
-    pure (unit.Entity (record { name = id; generics = xs; ports = ys; word_end = said; end = again }))
+    ends ← unit_end w.Entity
+    pure (unit.Entity (record { name = id; generics = xs; ports = ys; word_end = ends.0; end = ends.1 }))
+
+  -- "architecture" id "of" id "is"
+  unfoldable pub architecture_head : Rule (Name × Name)
+  architecture_head = do
+    one (word w.Architecture)
+    id ← one name_of
+    of ← name_after w.Of
+    one (word w.Is)
+    pure (id, of)
 
   -- "architecture" id "of" id "is" { decl } "begin" { conc } "end" [ "architecture" ] [ id ] ";"
   unfoldable pub architecture : Rule DesignUnit
   architecture = do
-    one (word w.Architecture)
-    id ← one name_of
-    one (word w.Of)
-    of ← one name_of
-    one (word w.Is)
+    head ← architecture_head
     xs ← repeated last (declaration limit depth) []
     one (word w.Begin)
     ys ← repeated last (concurrent limit depth) []
-    one (word w.End)
-    said ← present (one (word w.Architecture))
-    again ← optional (one name_of)
-    one (mark m.Semicolon)
-    pure (unit.Architecture (record { name = id; entity = of; declarations = xs; statements = ys; word_end = said; end = again }))
+    ends ← unit_end w.Architecture
+    pure (unit.Architecture (record { name = head.0; entity = head.1; declarations = xs; statements = ys; word_end = ends.0; end = ends.1 }))
 
   -- context | entity | architecture
   unfoldable pub design_unit : Rule DesignUnit

@@ -177,4 +177,4 @@ simple_expression limit depth = outermost (simple_expr depth) limit
 
 -- a name in a list of names, which is no expression: its parenthesis and its tick do not count
 unfoldable pub listed_name : ℕ → ℕ → Rule Expr
-listed_name limit depth = one name_of >>= named (allows depth) (expression limit (below depth)) 0
+listed_name limit depth = one name_of >>= named (allows depth) (outermost (lower expr depth) limit) 0

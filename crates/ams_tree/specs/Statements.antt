@@ -1,6 +1,7 @@
 -- The grammar of sequential statements (IEEE 1076, and the break statement of IEEE 1076.1, as far as the profile has them).
 use Rattle.std.specs.Prelude.{ℕ, zero, suc, Bool, true, false, List, [], ◌∷◌, Option, Some, None}
 use Rattle.ams_token.specs.declared.token.Place.{Place}
+use Rattle.ams_token.specs.declared.word.Word.{Word}
 use Rattle.ams_token.specs.declared.word.Word.TheVariants as w
 use Rattle.ams_token.specs.declared.mark.Mark.TheVariants as m
 use Rattle.ams_tree.specs.declared.expression.Name.{Name}
@@ -22,6 +23,10 @@ use Rattle.ams_tree.specs.Rule.{Rule, pure, terminal, one, optional, ◌>>=◌, 
 use Rattle.ams_tree.specs.Terminals.{mark, word, name_of, string_of}
 use Rattle.ams_tree.specs.Expressions.{last, nowhere, expression, simple_expression, listed_name}
 use Rattle.ams_tree.specs.Declarations.{range}
+
+-- "end", this word, ";"
+unfoldable pub ending : Word → Rule Place
+ending x = one (word w.End) >> (one (word x) >> one (mark m.Semicolon))
 
 -- with this many operators, calls and attributes, and levels, at most
 module _ (limit depth : ℕ) where
@@ -191,17 +196,20 @@ module _ (allowed : Bool) (inner : Rule Seq) (limit depth : ℕ) where
     all ← body
     pure (roll-Branch (record { condition = x; body = all }))
 
+  -- { "elsif" expr "then" { seq } } [ "else" { seq } ] "end" "if" ";"
+  unfoldable pub rest_of_if : Place → Branch → Rule Seq
+  rest_of_if place first = do
+    all ← repeated last (one (word w.Elsif) >> branch) (first ∷ [])
+    other ← optional (one (word w.Else) >> body)
+    ending w.If
+    pure (seq.If place all other)
+
   -- "if" expr "then" { seq } { "elsif" expr "then" { seq } } [ "else" { seq } ] "end" "if" ";"
   unfoldable pub if_statement : Rule Seq
   if_statement = do
     place ← terminal allowed 0 (word w.If)
     first ← branch
-    all ← repeated last (one (word w.Elsif) >> branch) (first ∷ [])
-    other ← optional (one (word w.Else) >> body)
-    one (word w.End)
-    one (word w.If)
-    one (mark m.Semicolon)
-    pure (seq.If place all other)
+    rest_of_if place first
 
   -- "when" choice { "|" choice } "=>" { seq }
   unfoldable pub alternative : Rule Alternative
@@ -210,27 +218,36 @@ module _ (allowed : Bool) (inner : Rule Seq) (limit depth : ℕ) where
     all ← body
     pure (roll-Alternative (record { choices = xs; body = all }))
 
+  -- alt { alt }
+  unfoldable pub alternatives : Rule (List Alternative)
+  alternatives = do
+    first ← alternative
+    repeated last alternative (first ∷ [])
+
   -- "case" expr "is" alt { alt } "end" "case" ";"
   unfoldable pub case_statement : Rule Seq
   case_statement = do
     place ← terminal allowed 0 (word w.Case)
     x ← expression limit depth
     one (word w.Is)
-    first ← alternative
-    all ← repeated last alternative (first ∷ [])
-    one (word w.End)
-    one (word w.Case)
-    one (mark m.Semicolon)
+    all ← alternatives
+    ending w.Case
     pure (seq.Case place x all)
 
   -- { seq } "end" "loop" ";"
   unfoldable pub rest_of_loop : Place → Iteration → Rule Seq
   rest_of_loop place how = do
     all ← body
-    one (word w.End)
-    one (word w.Loop)
-    one (mark m.Semicolon)
+    ending w.Loop
     pure (seq.Loop place how all)
+
+  -- id "in" simple ( "to" | "downto" ) simple
+  unfoldable pub parameter : Rule Iteration
+  parameter = do
+    name ← one name_of
+    one (word w.In)
+    x ← range limit depth
+    pure (iteration.For name x)
 
   -- [ "while" expr | "for" id "in" simple ( "to" | "downto" ) simple ] "loop" { seq } "end" "loop" ";"
   unfoldable pub loop_statement : Rule Seq
@@ -241,11 +258,9 @@ module _ (allowed : Bool) (inner : Rule Seq) (limit depth : ℕ) where
     rest_of_loop place (iteration.While x))
       <|> ((do
         place ← terminal allowed 0 (word w.For)
-        name ← one name_of
-        one (word w.In)
-        x ← range limit depth
+        how ← parameter
         one (word w.Loop)
-        rest_of_loop place (iteration.For name x))
+        rest_of_loop place how)
       <|> (terminal allowed 0 (word w.Loop) >>= (λ place. rest_of_loop place iteration.Endless)))
 
 -- a statement with so many operators in each expression, and levels, at most

@@ -24,7 +24,7 @@ use Rattle.ams_tree.specs.declared.declaration.Mode.{Mode}
 use Rattle.ams_tree.specs.declared.declaration.Mode.TheVariants as mode
 
 -- the place of a token of this kind
-abbrev pub of_class : ℕ → Token → Option Place
+unfoldable pub of_class : ℕ → Token → Option Place
 of_class c t = if nat_eq (class t) c then Some t.place else None
 
 abbrev pub mark : Mark → Token → Option Place
@@ -51,7 +51,7 @@ name_in (kind.Name n) p = Some (record { number = n; place = p })
 name_in _ p = None
 
 -- an identifier
-abbrev pub name_of : Token → Option Name
+unfoldable pub name_of : Token → Option Name
 name_of t = name_in t.kind t.place
 
 abbrev pub number_in : TokenKind → Place → Option Number
@@ -60,7 +60,7 @@ number_in (kind.Real x) p = Some (record { value = value.Real x; place = p })
 number_in _ p = None
 
 -- an integer or a real
-abbrev pub number_of : Token → Option Number
+unfoldable pub number_of : Token → Option Number
 number_of t = number_in t.kind t.place
 
 abbrev pub literal_in : TokenKind → Place → Option Literal
@@ -70,14 +70,14 @@ literal_in (kind.Bits n) p = Some (record { value = content.Bits n; place = p })
 literal_in _ p = None
 
 -- a character, a string or a bit string
-abbrev pub literal_of : Token → Option Literal
+unfoldable pub literal_of : Token → Option Literal
 literal_of t = literal_in t.kind t.place
 
 abbrev pub string_in : TokenKind → Place → Option Literal
 string_in (kind.Str n) p = Some (record { value = content.Str n; place = p })
 string_in _ p = None
 
-abbrev pub string_of : Token → Option Literal
+unfoldable pub string_of : Token → Option Literal
 string_of t = string_in t.kind t.place
 
 abbrev pub multiplying_in : TokenKind → Option Binary
@@ -87,7 +87,7 @@ multiplying_in (kind.Word w.Mod) = Some binary.Mod
 multiplying_in (kind.Word w.Rem) = Some binary.Rem
 multiplying_in _ = None
 
-abbrev pub multiplying : Token → Option Binary
+unfoldable pub multiplying : Token → Option Binary
 multiplying t = multiplying_in t.kind
 
 abbrev pub adding_in : TokenKind → Option Binary
@@ -96,7 +96,7 @@ adding_in (kind.Mark m.Minus) = Some binary.Subtract
 adding_in (kind.Mark m.Ampersand) = Some binary.Concat
 adding_in _ = None
 
-abbrev pub adding : Token → Option Binary
+unfoldable pub adding : Token → Option Binary
 adding t = adding_in t.kind
 
 abbrev pub shifting_in : TokenKind → Option Binary
@@ -108,7 +108,7 @@ shifting_in (kind.Word w.Rol) = Some binary.RotateLeft
 shifting_in (kind.Word w.Ror) = Some binary.RotateRight
 shifting_in _ = None
 
-abbrev pub shifting : Token → Option Binary
+unfoldable pub shifting : Token → Option Binary
 shifting t = shifting_in t.kind
 
 abbrev pub relating_in : TokenKind → Option Binary
@@ -120,7 +120,7 @@ relating_in (kind.Mark m.Greater) = Some binary.Greater
 relating_in (kind.Mark m.GreaterEqual) = Some binary.GreaterEqual
 relating_in _ = None
 
-abbrev pub relating : Token → Option Binary
+unfoldable pub relating : Token → Option Binary
 relating t = relating_in t.kind
 
 abbrev pub sign_in : TokenKind → Place → Option (Unary × Place)
@@ -128,7 +128,7 @@ sign_in (kind.Mark m.Plus) p = Some (unary.Plus, p)
 sign_in (kind.Mark m.Minus) p = Some (unary.Minus, p)
 sign_in _ p = None
 
-abbrev pub sign : Token → Option (Unary × Place)
+unfoldable pub sign : Token → Option (Unary × Place)
 sign t = sign_in t.kind t.place
 
 abbrev pub prefix_in : TokenKind → Place → Option (Unary × Place)
@@ -136,7 +136,7 @@ prefix_in (kind.Word w.Abs) p = Some (unary.Abs, p)
 prefix_in (kind.Word w.Not) p = Some (unary.Not, p)
 prefix_in _ p = None
 
-abbrev pub prefix : Token → Option (Unary × Place)
+unfoldable pub prefix : Token → Option (Unary × Place)
 prefix t = prefix_in t.kind t.place
 
 abbrev pub direction_in : TokenKind → Option Direction
@@ -144,7 +144,7 @@ direction_in (kind.Word w.To) = Some direction.To
 direction_in (kind.Word w.Downto) = Some direction.Downto
 direction_in _ = None
 
-abbrev pub direction_of : Token → Option Direction
+unfoldable pub direction_of : Token → Option Direction
 direction_of t = direction_in t.kind
 
 abbrev pub mode_in : TokenKind → Option Mode
@@ -152,5 +152,5 @@ mode_in (kind.Word w.In) = Some mode.In
 mode_in (kind.Word w.Out) = Some mode.Out
 mode_in _ = None
 
-abbrev pub mode_of : Token → Option Mode
+unfoldable pub mode_of : Token → Option Mode
 mode_of t = mode_in t.kind

@@ -63,7 +63,7 @@ split (t ∷ ts) us (u ∷ front) back e =
     longer (inl (more, f)) g = inl (more, cc)
     longer (inr (more, f, h)) g = inr (more, cc, h)
 
-no_tokens : (ts us : List Token) → ts ++ us ≡ [] → ts ≡ []
+pub no_tokens : (ts us : List Token) → ts ++ us ≡ [] → ts ≡ []
 no_tokens [] us e = refl
 no_tokens (t ∷ ts) us e = cc
 

@@ -24,6 +24,7 @@ abbrev pub M : Rattle.ams_token.specs.declared.mark.Mark.Mark → ℕ
 M x = mark_class x
 
 pub class_tells : (c : ℕ) → Tells (c ∷ []) (of_class c)
+unfolding of_class
 class_tells c t = go (nat_eq (class t) c)
   where
     go : (b : Bool) → (b || false) ≡ is_some (if b then Some t.place else None)
@@ -34,6 +35,7 @@ abbrev pub names : List ℕ
 names = 0 ∷ 1 ∷ 2 ∷ 3 ∷ 4 ∷ []
 
 pub name_of_tells : Tells names name_of
+unfolding name_of
 name_of_tells t = go t.kind
   where
     go : (k : TokenKind) → has names (kind_class k) ≡ is_some (name_in k t.place)
@@ -56,6 +58,7 @@ abbrev pub numbers : List ℕ
 numbers = 5 ∷ 6 ∷ []
 
 pub number_of_tells : Tells numbers number_of
+unfolding number_of
 number_of_tells t = go t.kind
   where
     go : (k : TokenKind) → has numbers (kind_class k) ≡ is_some (number_in k t.place)
@@ -78,6 +81,7 @@ abbrev pub literals : List ℕ
 literals = 7 ∷ 8 ∷ 9 ∷ []
 
 pub literal_of_tells : Tells literals literal_of
+unfolding literal_of
 literal_of_tells t = go t.kind
   where
     go : (k : TokenKind) → has literals (kind_class k) ≡ is_some (literal_in k t.place)
@@ -100,6 +104,7 @@ abbrev pub strings : List ℕ
 strings = 8 ∷ []
 
 pub string_of_tells : Tells strings string_of
+unfolding string_of
 string_of_tells t = go t.kind
   where
     go : (k : TokenKind) → has strings (kind_class k) ≡ is_some (string_in k t.place)
@@ -122,6 +127,7 @@ abbrev pub multipliers : List ℕ
 multipliers = M m.Star ∷ M m.Slash ∷ W w.Mod ∷ W w.Rem ∷ []
 
 pub multiplying_tells : Tells multipliers multiplying
+unfolding multiplying
 multiplying_tells t = go t.kind
   where
     go : (k : TokenKind) → has multipliers (kind_class k) ≡ is_some (multiplying_in k)
@@ -144,6 +150,7 @@ abbrev pub adders : List ℕ
 adders = M m.Plus ∷ M m.Minus ∷ M m.Ampersand ∷ []
 
 pub adding_tells : Tells adders adding
+unfolding adding
 adding_tells t = go t.kind
   where
     go : (k : TokenKind) → has adders (kind_class k) ≡ is_some (adding_in k)
@@ -166,6 +173,7 @@ abbrev pub shifters : List ℕ
 shifters = W w.Sll ∷ W w.Srl ∷ W w.Sla ∷ W w.Sra ∷ W w.Rol ∷ W w.Ror ∷ []
 
 pub shifting_tells : Tells shifters shifting
+unfolding shifting
 shifting_tells t = go t.kind
   where
     go : (k : TokenKind) → has shifters (kind_class k) ≡ is_some (shifting_in k)
@@ -188,6 +196,7 @@ abbrev pub relators : List ℕ
 relators = M m.Equal ∷ M m.NotEqual ∷ M m.Less ∷ M m.LessEqual ∷ M m.Greater ∷ M m.GreaterEqual ∷ []
 
 pub relating_tells : Tells relators relating
+unfolding relating
 relating_tells t = go t.kind
   where
     go : (k : TokenKind) → has relators (kind_class k) ≡ is_some (relating_in k)
@@ -210,6 +219,7 @@ abbrev pub signs : List ℕ
 signs = M m.Plus ∷ M m.Minus ∷ []
 
 pub sign_tells : Tells signs sign
+unfolding sign
 sign_tells t = go t.kind
   where
     go : (k : TokenKind) → has signs (kind_class k) ≡ is_some (sign_in k t.place)
@@ -232,6 +242,7 @@ abbrev pub prefixes : List ℕ
 prefixes = W w.Abs ∷ W w.Not ∷ []
 
 pub prefix_tells : Tells prefixes prefix
+unfolding prefix
 prefix_tells t = go t.kind
   where
     go : (k : TokenKind) → has prefixes (kind_class k) ≡ is_some (prefix_in k t.place)
@@ -254,6 +265,7 @@ abbrev pub directions : List ℕ
 directions = W w.To ∷ W w.Downto ∷ []
 
 pub direction_of_tells : Tells directions direction_of
+unfolding direction_of
 direction_of_tells t = go t.kind
   where
     go : (k : TokenKind) → has directions (kind_class k) ≡ is_some (direction_in k)
@@ -276,6 +288,7 @@ abbrev pub modes : List ℕ
 modes = W w.In ∷ W w.Out ∷ []
 
 pub mode_of_tells : Tells modes mode_of
+unfolding mode_of
 mode_of_tells t = go t.kind
   where
     go : (k : TokenKind) → has modes (kind_class k) ≡ is_some (mode_in k)

@@ -3,7 +3,7 @@ use Rattle.std.proofs.Common.{◌≡◌, ℕ, suc, ◌+◌, ◌-◌, ◌<◌, �
 use Rattle.ams_token.specs.declared.token.Token.{Token}
 use Rattle.parse_steps.specs.declared.reader.Stop.TheVariants.{TooDeep}
 use Rattle.parse_steps.specs.State.{State}
-use Rattle.parse_steps.specs.Reading.{peek, state, from_next, and_then, pure, taken, take, terminal, terminal_at}
+use Rattle.parse_steps.specs.Reading.{peek, state, from_next, and_then, pure, taken, take, terminal, terminal_at, at}
 
 seen_list : {A : Type 0} (allowed : Bool) (cost : ℕ) (f : Token → Option A) (a : A) (ts : List Token) (n : ℕ) → from_next f (peek ts) ≡ Some a → terminal_at allowed cost f ts n ≡ and_then (take allowed cost (state ts n)) (λ _. pure a)
 seen_list allowed cost f a [] n e = cc

@@ -64,6 +64,7 @@ impl<'t> Reader<'t> {
     }
 
     /// Whether the next token is of this kind.
+    #[tactic(auto, unfolding(ams_tree::specs::Terminals::of_class))]
     pub fn at(&self, kind: TokenKind) -> bool
         ensures { result ≡ reading.at (of_class (kind_class kind)) self.now.rest }
     {
@@ -74,6 +75,7 @@ impl<'t> Reader<'t> {
     }
 
     /// The place of the next token, where it is of this kind.
+    #[tactic(auto, unfolding(ams_tree::specs::Terminals::of_class))]
     pub fn place(&self, kind: TokenKind) -> Option<Place>
         ensures { result ≡ reading.seen (of_class (kind_class kind)) self.now.rest }
     {

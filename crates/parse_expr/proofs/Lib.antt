@@ -1,0 +1,3 @@
+pub mod RulesCover
+pub mod RulesSound
+pub mod Called
