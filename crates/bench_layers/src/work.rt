@@ -1,15 +1,18 @@
 //! The pieces of work.
+ghost use Rattle.std.specs.Prelude.{◌<◌, unsigned_abs};
 
 use crate::numbers::Numbers;
 use fix_core::{Fix, NumFault};
+use math_fix::exp;
 
-/// A piece of work.
+/// A piece of work, as its name says: operands of at most 2^39 units are small, and those of up to 2^77 large.
 #[derive(Clone, Copy)]
 pub enum Work {
     MulSmall,
     MulLarge,
     DivSmall,
     DivLarge,
+    Exp,
 }
 
 impl Work {
@@ -19,6 +22,7 @@ impl Work {
             "mul-large" => Some(Work::MulLarge),
             "div-small" => Some(Work::DivSmall),
             "div-large" => Some(Work::DivLarge),
+            "exp" => Some(Work::Exp),
             _ => None,
         }
     }
@@ -30,6 +34,7 @@ impl Work {
             Work::MulLarge => mul_large(count),
             Work::DivSmall => div_small(count),
             Work::DivLarge => div_large(count),
+            Work::Exp => exps(count),
         }
     }
 }
@@ -43,7 +48,9 @@ fn low(answer: Result<Fix, NumFault>) -> u64 {
 }
 
 /// A divisor, where 0 counts as one unit.
-fn divisor(number: Fix) -> Fix {
+fn divisor(number: Fix) -> Fix
+    ensures { 0 < unsigned_abs result }
+{
     if number.units() == 0 {
         Fix::exactly(1)
     } else {
@@ -91,6 +98,15 @@ fn div_large(count: u64) -> u64 {
         let a = numbers.large();
         let b = divisor(numbers.large());
         sum = sum.wrapping_add(low(a.div(b)));
+    }
+    sum
+}
+
+fn exps(count: u64) -> u64 {
+    let mut numbers = Numbers::new();
+    let mut sum = 0u64;
+    for _ in 0..count {
+        sum = sum.wrapping_add(low(exp(numbers.exponent())));
     }
     sum
 }
