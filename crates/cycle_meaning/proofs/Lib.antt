@@ -1,1 +1,2 @@
 pub mod WorkedCycleRows
+pub mod CountingRows

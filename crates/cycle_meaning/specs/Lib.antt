@@ -4,3 +4,4 @@ pub mod Statements
 pub mod Processes
 pub mod Cycles
 pub mod Worked
+pub mod Counting

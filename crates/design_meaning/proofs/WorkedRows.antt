@@ -1,5 +1,5 @@
 -- Small designs with their solutions, by computation.
-use Rattle.std.proofs.Common.{◌≡◌, refl, ap, ◌∙◌, List, [], ◌∷◌, ℕ, true}
+use Rattle.std.proofs.Common.{◌≡◌, refl, ap, ◌∙◌, List, [], ◌∷◌, ℕ, true, false}
 use Rattle.std.specs.Prelude.{pos, ℤ, Result, Ok, Err}
 use Rattle.fix_core.specs.Rounding.{nearest, rnd}
 use Rattle.fix_core.specs.Passes.{each, and_then}
@@ -42,8 +42,11 @@ sides f i v = ap (λ (a : Meaning). f a (meaning_of (e.Literal v))) (meaning-unk
 tip : Tip
 tip = record { t = 0; x = pos 0 ∷ pos 1000000000000000000 ∷ []; h = 5000; fresh = true }
 
+later : Tip
+later = record { t = 5000; x = pos 5000000000 ∷ pos 1000000000000000000 ∷ []; h = 5000; fresh = false }
+
 pub solutions : WorkedSolutions
-unfolding nearest rnd each ranged sum_of difference_of product_of quotient_of tenfold_of right_side largest place_of_largest scaled minus_row reduced substituted unknown unknowns solution_of balance_from rows_of corrected round newton choose trial settle tip
+unfolding nearest rnd each ranged sum_of difference_of product_of quotient_of tenfold_of right_side largest place_of_largest scaled minus_row reduced substituted unknown unknowns solution_of balance_from rows_of corrected round newton choose trial settle tip later
 solutions = record {
   literal_is_found = sides (solved literal Quiet 0 quiescent [] (pos 0 ∷ [])) (u.Quantity 0) (val.Real (pos 2500000000000));
   ramp_is_singular = sides (solved ramp Quiet 0 quiescent [] (pos 0 ∷ pos 0 ∷ [])) (u.Dot 0) (val.Real (pos 1000000000000000000));
@@ -51,4 +54,7 @@ solutions = record {
   ramp_rises =
       sides (λ a b. and_then (λ y. landed 1000000000 (step_error 5000 (pos 1000000000000000000 ∷ []) (dots_in ramp y)) y)
       (solved ramp Timed 5000 (time_domain (readings_of ramp [] Timed 0 tip.x) true 5000) [] tip.x a b)) (u.Dot 0) (val.Real (pos 1000000000000000000));
+  ramp_goes_on =
+      sides (λ a b. and_then (λ y. landed 1000000000 (step_error 5000 (pos 1000000000000000000 ∷ []) (dots_in ramp y)) y)
+      (solved ramp Timed 10000 (time_domain (readings_of ramp [] Timed 5000 later.x) false 5000) [] later.x a b)) (u.Dot 0) (val.Real (pos 1000000000000000000));
 }

@@ -1,9 +1,11 @@
 pub mod Faults
 pub mod Readings
 pub mod Value
+pub mod Typed
 pub mod Equations
 pub mod Reading
 pub mod Newton
 pub mod Steps
 pub mod Laws
 pub mod Worked
+pub mod Variants

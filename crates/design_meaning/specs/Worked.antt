@@ -1,5 +1,5 @@
 -- Small designs with their solutions.
-use Rattle.std.specs.Prelude.{◌≡◌, ℕ, ℤ, pos, List, [], ◌∷◌, Result, Ok, Err, true}
+use Rattle.std.specs.Prelude.{◌≡◌, ℕ, ℤ, pos, List, [], ◌∷◌, Result, Ok, Err, true, false}
 use Rattle.ams_value.specs.declared.val.Val.TheVariants as val
 use Rattle.flat_expr.specs.declared.expr.FlatExpr.{FlatExpr}
 use Rattle.flat_expr.specs.declared.expr.FlatExpr.TheVariants as e
@@ -56,3 +56,6 @@ pub record WorkedSolutions : Type 0 where
   -- from there 5 ns later q is 0.005
   pub ramp_rises : trial ramp options [] (record { t = 0; x = pos 0 ∷ pos 1000000000000000000 ∷ []; h = 5000; fresh = true }) 5000
       ≡ Ok (record { x = pos 5000000000 ∷ pos 1000000000000000000 ∷ []; err = 0 })
+  -- and by the trapezoidal rule, from a tip that is not fresh, another 5 ns later it is 0.01
+  pub ramp_goes_on : trial ramp options [] (record { t = 5000; x = pos 5000000000 ∷ pos 1000000000000000000 ∷ []; h = 5000; fresh = false }) 5000
+      ≡ Ok (record { x = pos 10000000000 ∷ pos 1000000000000000000 ∷ []; err = 0 })

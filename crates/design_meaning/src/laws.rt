@@ -1,6 +1,13 @@
 //! Laws of the definitions. Each is proved, and does nothing when it runs.
 ghost use Rattle.design_meaning.specs.Laws.{SumsHaveTheBranchEnds, SetsDifferInAugmentation};
+ghost use Rattle.design_meaning.specs.Variants.{MeaningByVariants};
 ghost use Rattle.design_meaning.specs.Worked.{WorkedSolutions};
+
+/// The value and the slopes of an expression follow from those of its operands.
+#[tactic(auto, using(crate::proofs::Meanings::variants))]
+pub fn meaning_by_variants()
+    ensures { MeaningByVariants }
+{}
 
 /// The sum of the currents at a node has a term for each branch end.
 #[tactic(auto, using(crate::proofs::SetLaws::sums))]

@@ -7,4 +7,6 @@ mod fault;
 mod laws;
 
 pub use fault::EvalFault;
-pub use laws::{sets_differ_in_augmentation, sums_have_the_branch_ends, worked_solutions};
+pub use laws::{
+    meaning_by_variants, sets_differ_in_augmentation, sums_have_the_branch_ends, worked_solutions,
+};

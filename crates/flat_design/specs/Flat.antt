@@ -9,6 +9,7 @@ pub record HasNumbers (objects : Objects) : Type 0 where
   pub signals : length objects.signals < 4294967296
   pub quantities : length objects.quantities < 4294967296
   pub nodes : length objects.nodes < 4294967296
+  pub equations : length objects.equations < 4294967296
   pub dots : length objects.dots < 4294967296
   pub thresholds : length objects.thresholds < 4294967296
 

@@ -75,21 +75,21 @@ abbrev pub size_of : Equation → ℕ
 size_of (equation.Pair p) = 1
 size_of (equation.Choice c) = c.size
 
+-- a name for each of them
+abbrev pub explicit_of : ℕ → Equation → List EquationName
+explicit_of k x = map (Explicit k) (range_with_len 0 (size_of x))
+
 abbrev pub explicit_from : ℕ → List Equation → List EquationName
 explicit_from k [] = []
-explicit_from k (x ∷ xs) = map (Explicit k) (range_with_len 0 (size_of x)) ++ explicit_from (k + 1) xs
+explicit_from k (x ∷ xs) = explicit_of k x ++ explicit_from (k + 1) xs
 
-abbrev pub is_across : QuantityKind → Bool
-is_across (kind.Across plus minus) = true
-is_across _ = false
+abbrev pub across_of : ℕ → QuantityKind → List EquationName
+across_of k (kind.Across plus minus) = Across k ∷ []
+across_of k _ = []
 
 abbrev pub across_from : ℕ → List QuantityObject → List EquationName
 across_from k [] = []
-across_from k (q ∷ qs) = across_by (is_across q.kind) k (across_from (k + 1) qs)
-  where
-    across_by : Bool → ℕ → List EquationName → List EquationName
-    across_by true k rest = Across k ∷ rest
-    across_by false k rest = rest
+across_from k (q ∷ qs) = across_of k q.kind ++ across_from (k + 1) qs
 
 -- the equations in order: the explicit ones, a sum for each node, one for each across quantity, one for each dot
 abbrev pub equation_names : Objects → List EquationName

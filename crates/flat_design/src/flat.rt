@@ -1,10 +1,11 @@
 //! The flat design, and what is read of it.
 ghost use Rattle.std.specs.Prelude.{◌≡◌, ◌<◌, ◌++◌, IfOk};
 ghost use Rattle.std.specs.List.{slice_get};
-ghost use Rattle.flat_design.specs.Order.{unknown_count, number_of, unknown_at, quantity_path, path_of_node, dot_path, unknown_name, NumbersFindUnknowns};
+ghost use Rattle.flat_design.specs.Order.{unknown_count, number_of, unknown_at, quantity_path, path_of_node, dot_path, unknown_name, equation_names, NumbersFindUnknowns};
 ghost use Rattle.flat_design.specs.Reads.{frame_of};
 ghost use Rattle.flat_design.specs.Flat.{HasNumbers};
 
+use crate::names::{self, EquationName};
 use crate::objects::{
     Enumeration, Equation, Instance, Name, Node, Objects, Process, Quantity, Ramp, Signal,
     Threshold,
@@ -149,6 +150,20 @@ impl Flat {
         } else {
             Unknown::Dot((number - quantities - nodes) as u32)
         }
+    }
+
+    /// The names of the equations of a set, in order.
+    pub fn equation_names(&self, alloc: Global) -> Result<Items<EquationName>, AllocError>
+        ensures { IfOk result (λ names. names ≡ equation_names self.now) }
+    {
+        let sums = names::sum_names(alloc, self.objects.nodes.len() as u32)?;
+        let across = names::across_names(alloc, 0, self.objects.quantities.as_slice())?;
+        let augmentation = names::augmentation_names(alloc, self.objects.dots.len() as u32)?;
+        let mut names = names::explicit_names(alloc, 0, self.objects.equations.as_slice())?;
+        names.append(Items::from_vec(sums))?;
+        names.append(across)?;
+        names.append(Items::from_vec(augmentation))?;
+        Ok(names)
     }
 
     fn quantity_path(&self, number: u32) -> &[u8]

@@ -3,8 +3,7 @@ use Rattle.std.specs.Prelude.{ℕ, ◌+◌, ◌&&◌, nat_eq, nat_lt, nat_le, Bo
 use Rattle.std.specs.List.{slice_get, list_any}
 use Rattle.ams_value.specs.declared.val.Val.{Val}
 use Rattle.ams_value.specs.declared.val.Val.TheVariants as val
-use Rattle.ams_value.specs.declared.value_type.ValueType.{ValueType}
-use Rattle.ams_value.specs.declared.value_type.ValueType.TheVariants.{Boolean, Bit, Integer, Real, Time, Enumeration, BitVector}
+use Rattle.ams_value.specs.declared.value_type.ValueType.TheVariants.{Boolean, Enumeration}
 use Rattle.ams_value.specs.Types.{type_of}
 use Rattle.flat_expr.specs.declared.expr.SignalName.{SignalName}
 use Rattle.flat_expr.specs.declared.expr.SignalName.TheVariants as name
@@ -18,20 +17,11 @@ use Rattle.step_data.specs.declared.event.Event.{Event}
 use Rattle.step_data.specs.declared.event.Event.TheVariants as event
 use Rattle.step_data.specs.declared.outcome.Options.{Options}
 use Rattle.step_model.specs.System.{System}
+use Rattle.design_meaning.specs.Typed.{same_type}
 use Rattle.design_meaning.specs.Steps.{choose, trial, settle, selections_of}
 use Rattle.cycle_meaning.specs.Cycles.{start, cycle, next_time, frame, thresholds, breaks}
 
 -- ---- the types of a frame's places
-
-abbrev pub same_type : ValueType → ValueType → Bool
-same_type Boolean Boolean = true
-same_type Bit Bit = true
-same_type Integer Integer = true
-same_type Real Real = true
-same_type Time Time = true
-same_type (Enumeration m) (Enumeration n) = nat_eq m n
-same_type (BitVector m) (BitVector n) = nat_eq m n
-same_type _ _ = false
 
 abbrev pub is_signal_value : Option Signal → Val → Bool
 is_signal_value (Some s) v = same_type (type_of v) s.kind
