@@ -66,8 +66,6 @@ pub fn refuse(options: &Options, tip: &Tip, cause: Cause, out: &mut Attempt)
 /// proved, and does nothing when it runs.
 #[tactic(auto, using(crate::specs::StepLaws::attempt_from))]
 pub fn attempts_keep_the_step()
-    ensures {
-        (sys : System) (frame : List Val) (tip : Tip) →
-        HasStep sys.options tip.h → AttemptFrom sys.options tip (attempt sys frame tip)
-    }
+    ensures { (sys : System) (frame : List Val) (tip : Tip) →
+        HasStep sys.options tip.h → AttemptFrom sys.options tip (attempt sys frame tip) }
 {}
