@@ -23,7 +23,7 @@ best() { # PROGRAM WORK COUNT: leaves the least time in $least
     done
 }
 
-for line in mul-small:10000000 mul-large:10000000 div-small:10000000 div-large:10000000 exp:1000000; do
+for line in mul-small:10000000 mul-large:10000000 div-small:10000000 div-large:10000000 exp:1000000 dense:1000; do
     work=${line%:*}
     count=${line#*:}
     best "$own" "$work" "$count"

@@ -1,6 +1,7 @@
 //! Does one piece of a layer's work so many times, and prints the work and the wrapping sum of the results.
 #![tactic(auto)]
 
+mod dense;
 mod numbers;
 mod work;
 
@@ -15,5 +16,6 @@ fn main(rt: HostRuntime) -> io::Result<()> {
     let (Some(work), Ok(count)) = (Work::named(name.as_str()), count.parse::<u64>()) else {
         return eprintln!(rt; "usage: bench_layers WORK COUNT");
     };
-    println!(rt; "{} {}", name, work.sum(count))
+    let sum = work.sum(rt.alloc(), count)?;
+    println!(rt; "{name} {sum}")
 }

@@ -1,5 +1,7 @@
 //! Operands that look random.
 
+ghost use Rattle.std.specs.Prelude.{◌≤◌, unsigned_abs};
+
 use fix_core::Fix;
 
 /// A linear congruential generator modulo 2^64.
@@ -22,7 +24,9 @@ impl Numbers {
     }
 
     /// A number of magnitude at most 2^39 units.
-    pub fn small(&mut self) -> Fix {
+    pub fn small(&mut self) -> Fix
+        ensures { unsigned_abs result ≤ 549755813888 }
+    {
         Fix::exactly(i128::from(self.next() >> 24) - 549_755_813_888)
     }
 

@@ -1,9 +1,11 @@
 //! The pieces of work.
 ghost use Rattle.std.specs.Prelude.{◌<◌, unsigned_abs};
 
+use crate::dense::dense;
 use crate::numbers::Numbers;
 use fix_core::{Fix, NumFault};
 use math_fix::exp;
+use std::alloc::{AllocError, Global};
 
 /// A piece of work, as its name says: operands of at most 2^39 units are small, and those of up to 2^77 large.
 #[derive(Clone, Copy)]
@@ -13,6 +15,7 @@ pub enum Work {
     DivSmall,
     DivLarge,
     Exp,
+    Dense,
 }
 
 impl Work {
@@ -23,19 +26,21 @@ impl Work {
             "div-small" => Some(Work::DivSmall),
             "div-large" => Some(Work::DivLarge),
             "exp" => Some(Work::Exp),
+            "dense" => Some(Work::Dense),
             _ => None,
         }
     }
 
     /// The wrapping sum of so many results.
-    pub fn sum(self, count: u64) -> u64 {
-        match self {
+    pub fn sum(self, alloc: Global, count: u64) -> Result<u64, AllocError> {
+        Ok(match self {
             Work::MulSmall => mul_small(count),
             Work::MulLarge => mul_large(count),
             Work::DivSmall => div_small(count),
             Work::DivLarge => div_large(count),
             Work::Exp => exps(count),
-        }
+            Work::Dense => return dense(alloc, count),
+        })
     }
 }
 

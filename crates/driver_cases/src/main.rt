@@ -1,8 +1,7 @@
 //! Assigns the waveforms on standard input to drivers, and prints what is pending then.
 //!
 //! A line is a mode, a rejection limit and a semicolon, the pending transactions, a bar, and the new ones. A transaction
-//! is its time and
-//! its value 0 or 1 with a colon between.
+//! is its time and its value 0 or 1 with a colon between.
 #![tactic(auto)]
 
 ghost use Rattle.std.specs.Prelude.{IsTrue};
