@@ -1,5 +1,5 @@
 -- Expressions, with what is known of reading them.
-use Rattle.std.proofs.Common.{false, refl}
+use Rattle.std.proofs.Common.{false}
 use Rattle.ams_tree.specs.Expressions as G
 use Rattle.parse_steps.proofs.Answering.{Answering}
 use Rattle.parse_expr.specs.Parsing as R

@@ -1,12 +1,12 @@
 -- Each rule of expressions is covered by its reading, with the kinds of token that begin it and that may follow.
-use Rattle.std.proofs.Common.{◌≡◌, ◌⊎◌, ℕ, zero, suc, ◌<◌, ◌≤◌, Bool, true, false, ◌&&◌, IsTrue, List, [], ◌∷◌, ◌++◌, Option, Some, None, refl, sym, subst, inl, inr, arith, true≢false, length, Err, le_refl}
+use Rattle.std.proofs.Common.{◌≡◌, ◌⊎◌, ℕ, zero, suc, ◌<◌, Bool, true, false, IsTrue, List, [], ◌∷◌, ◌++◌, refl, sym, subst, inl, inr, arith, true≢false, length, Err, le_refl}
 use Rattle.ams_token.specs.declared.token.Token.{Token}
 use Rattle.ams_token.specs.declared.word.Word.TheVariants as w
 use Rattle.ams_token.specs.declared.mark.Mark.TheVariants as m
 use Rattle.ams_tree.specs.declared.expression.Name.{Name}
 use Rattle.ams_tree.specs.declared.expression.Binary.{Binary}
 use Rattle.ams_tree.specs.declared.expression.Expr.{Expr}
-use Rattle.ams_tree.specs.Terminals.{of_class, mark, word, name_of, number_of, literal_of, multiplying, adding, shifting, sign, prefix, relating, event, dot, above, ramp}
+use Rattle.ams_tree.specs.Terminals.{of_class, mark, word, name_of, number_of, literal_of, multiplying, adding, shifting, sign, prefix, relating, event, dot, above}
 use Rattle.ams_tree.specs.Rule.{Rule}
 use Rattle.ams_tree.specs.Rule as rule
 use Rattle.ams_tree.specs.Expressions as G
@@ -14,7 +14,7 @@ use Rattle.ams_tree.specs.Expressions.{nowhere, lower, allows}
 use Rattle.parse_steps.specs.declared.reader.Stop.TheVariants.{TooDeep}
 use Rattle.parse_steps.specs.Reading.{Parser}
 use Rattle.parse_steps.specs.Reading as reading
-use Rattle.parse_steps.proofs.Sets.{apart, when}
+use Rattle.parse_steps.proofs.Sets.{apart}
 use Rattle.parse_steps.proofs.Covers.{Covers, pure_covers, token_covers, resized, nothing_covers, deep_covers, fresh_covers, no_tokens}
 use Rattle.parse_steps.proofs.Covering.{then_, ends, reads, takes_, or_, again, fits, maybe}
 use Rattle.parse_steps.proofs.KindSets.{W, M, class_tells, names, numbers, literals, multipliers, adders, shifters, signs, prefixes, relators, name_of_tells, number_of_tells, literal_of_tells, multiplying_tells, adding_tells, shifting_tells, sign_tells, prefix_tells, relating_tells}

@@ -1,5 +1,5 @@
 -- What is read by the rules of expressions is a text of them.
-use Rattle.std.proofs.Common.{◌≡◌, ℕ, zero, suc, ◌<◌, ◌≤◌, Bool, true, false, IsTrue, List, [], ◌∷◌, Option, Some, None, refl, sym, subst, arith, true≢false}
+use Rattle.std.proofs.Common.{◌≡◌, ℕ, zero, suc, ◌<◌, ◌≤◌, Bool, true, IsTrue, [], ◌∷◌, Option, refl, sym, subst, arith, true≢false}
 use Rattle.ams_token.specs.declared.token.Place.{Place}
 use Rattle.ams_token.specs.declared.token.Token.{Token}
 use Rattle.ams_token.specs.declared.word.Word.TheVariants as w
@@ -9,11 +9,9 @@ use Rattle.ams_tree.specs.declared.expression.Binary.{Binary}
 use Rattle.ams_tree.specs.declared.expression.Expr.{Expr}
 use Rattle.ams_tree.specs.Terminals.{mark, word, name_of, number_of, literal_of, multiplying, adding, shifting, sign, prefix, relating, event, dot, above}
 use Rattle.ams_tree.specs.Rule.{Rule}
-use Rattle.ams_tree.specs.Rule as rule
 use Rattle.ams_tree.specs.Expressions as G
 use Rattle.ams_tree.specs.Expressions.{lower, allows}
 use Rattle.parse_steps.specs.Reading.{Parser}
-use Rattle.parse_steps.specs.Reading as reading
 use Rattle.parse_steps.proofs.Sound.{Sound, pure_sound, token_sound, opened_sound, sound_over, fresh_sound}
 use Rattle.parse_steps.proofs.Sounding.{then_, ends, free, op_, or_, again, maybe}
 use Rattle.parse_expr.specs.Parsing as R

@@ -1,6 +1,5 @@
-use Rattle.std.proofs.Common.{◌≡◌, ◌≢◌, Err, length, sym, subst}
-use Rattle.ams_tree.specs.Expressions as G
-use Rattle.parse_steps.specs.Reply.{Answers, IsTree, most_operators}
+use Rattle.std.proofs.Common.{Err, length, sym, subst}
+use Rattle.parse_steps.specs.Reply.{IsTree, most_operators}
 use Rattle.parse_steps.proofs.Answering.{tree_fits, tree_answers, tree_back, stop_fits, stop_answers, stop_back, from_range}
 use Rattle.parse_expr.specs.Parsing as R
 use Rattle.parse_expr.proofs.Called.{answering}

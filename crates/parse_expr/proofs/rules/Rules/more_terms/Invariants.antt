@@ -1,9 +1,6 @@
 use Rattle.std.proofs.Common.{◌≡◌, ◌-◌}
-use Rattle.ams_tree.specs.declared.expression.Expr.{Expr}
-use Rattle.parse_steps.specs.Reading.{turns}
 use Rattle.ams_tree.specs.Expressions.{allows}
 use Rattle.parse_expr.specs.Parsing.{more_terms, term_turns, inside}
-use Rattle.parse_expr.specs.Parsing as spec
 use Rattle.parse_expr.proofs.rules.Rules.more_terms.Given as goal
 
 -- what the turns that are left make of the tree so far is the whole
