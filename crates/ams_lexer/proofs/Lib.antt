@@ -1,0 +1,12 @@
+pub mod RunLaws
+pub mod NumberLaws
+pub mod ValueLaws
+pub mod StringLaws
+pub mod MarkLaws
+pub mod PieceLaws
+pub mod AgainLaws
+pub mod LineLaws
+pub mod KindLaws
+pub mod TextLaws
+pub mod WordLaws
+pub mod OneCut

@@ -1,0 +1,32 @@
+ghost use Rattle.std.specs.Prelude.{◌≡◌};
+ghost use Rattle.ams_lexer.specs.declared.fault.LexFault.TheVariants.{Memory};
+
+use ams_token::Place;
+use std::alloc::{AllocError, AllocFailed};
+
+/// Why a text has no tokens, and where. Lines and columns are from 1, and each byte is one column.
+#[derive(Clone, Copy, Debug, PartialEq, Eq)]
+pub enum LexFault {
+    BadCharacter(Place),
+    BadLiteral(Place),
+    UnclosedString(Place),
+    NotAscii(Place),
+    /// Memory ran out, or the text is too long to be numbered by 32 bits.
+    Memory,
+}
+
+impl From<AllocError> for LexFault {
+    ghost from_gives = { λ _ e. e ≡ Memory };
+
+    fn from(_: AllocError) -> Self {
+        LexFault::Memory
+    }
+}
+
+impl<T: Drop> From<AllocFailed<T>> for LexFault {
+    ghost from_gives = { λ _ e. e ≡ Memory };
+
+    fn from(_: AllocFailed<T>) -> Self {
+        LexFault::Memory
+    }
+}
