@@ -1,10 +1,8 @@
 -- What stands at a place is read there.
-use Rattle.std.proofs.Common.{◌≡◌, ℕ, zero, suc, ◌+◌, ◌^◌, ◌≤◌, ◌<◌, ◌⊎◌, Bool, true, false, cond, not, ◌&&◌, ◌||◌, eqb, leb, ltb, List, [], ◌∷◌, ◌++◌, length, take, drop, map, Option, Some, None, Result, Ok, Err, refl, sym, ap, subst, ◌∙◌, arith, inl, inr, append_assoc}
-use Rattle.std.proofs.lemmas.Bool.{cond_both, or_cases, or_parts, or_from, or_left, or_right, and_parts, and_from, and_left, and_right, and_cases, cases_Bool, eqb-true, eqb-false, eq-eqb, ne_eqb, leb-true, le-leb, not-true, not-false, not_from_false, not_from_true, cases_eq, false_from_ne_true, lt-ltb, le-ltb, ltb-true, ltb-false}
+use Rattle.std.proofs.Common.{◌≡◌, ℕ, suc, ◌+◌, ◌^◌, ◌≤◌, Bool, true, false, cond, not, ◌&&◌, ◌||◌, eqb, ltb, List, [], ◌∷◌, ◌++◌, length, Option, Some, None, refl, sym, ap, subst, ◌∙◌, arith, inl, inr, append_assoc}
+use Rattle.std.proofs.lemmas.Bool.{cond_both, or_cases, and_parts, and_from, and_left, cases_Bool, eq-eqb, ne_eqb, le-leb, not-true, not_from_false, not_from_true, cases_eq, ltb-true, ltb-false}
 use Rattle.std.proofs.Math.Nat.{pow-le-pow_right}
-use Rattle.std.proofs.lemmas.Grind.{common_steps}
-use Rattle.std.proofs.lemmas.Bool.Decides.{nat_tests}
-use Rattle.std.proofs.lemmas.List.{take_at, drop_at, take-append-drop, length-append, length-take-le, drop-drop}
+use Rattle.std.proofs.lemmas.List.{take_at, drop_at, length-append}
 use Rattle.std.specs.List.{list_all}
 use Rattle.std.specs.Char.{digit_value, is_ascii, is_ascii_alphabetic, is_ascii_alphanumeric}
 use Rattle.ams_token.specs.declared.mark.Mark.{Mark}
@@ -15,16 +13,16 @@ use Rattle.ams_lexer.specs.declared.pieces.Piece.{Piece}
 use Rattle.ams_lexer.specs.declared.pieces.Piece.TheVariants as p
 use Rattle.ams_lexer.specs.declared.pieces.Cause.{Cause}
 use Rattle.ams_lexer.specs.declared.pieces.Cause.TheVariants as cause
-use Rattle.ams_lexer.specs.Runs.{begins, goes_on, IsRun, run_length}
+use Rattle.ams_lexer.specs.Runs.{begins}
 use Rattle.ams_lexer.specs.Numbers.{digit, IsNumber, integer, real, based, number_at}
-use Rattle.ams_lexer.specs.Strings.{spelled, ends, is_in_line, is_comment_byte, body_length, undoubled, front_length, is_bit_letter, bit_width, is_bit_digit, bit_text}
-use Rattle.ams_lexer.specs.Marks.{IsMark, single_mark, pair_mark, of_length, or_else, mark_at}
-use Rattle.ams_lexer.specs.Pieces.{Stands, Right, Means, is_separator, opens_comment, IsComment, IsSeparator, opens_bits, IsIdentifier, IsCharacter, IsString, IsBits, IsCharacterAt, IsLineEnd, is_wide, HasWideComment, HasWideString, HasBadNumber, HasBadBits, HasOpenString, HasOpenBits, HasBadCharacter, HasFault, Reading, found, refused, bits_at, word_at, text_at, comment_at, number_or_fault, mark_or_fault, is_printable, character_at, character_or, mark_piece_at, piece_at}
-use Rattle.ams_lexer.proofs.RunLaws.{TakesRun, takes_run, run_length-append, run_length-bound}
-use Rattle.ams_lexer.proofs.NumberLaws.{Finds, finds_number, number_again}
-use Rattle.ams_lexer.proofs.StringLaws.{TakesFront, takes_front, front_length-append, front_length-all, front_length-whole, TakesBody, takes_body, undoubled-spelled, body_length-spelled}
-use Rattle.ams_lexer.proofs.MarkLaws.{some_text, FindsMark, finds_mark, mark_again}
-use Rattle.ams_lexer.proofs.PieceLaws.{right_piece, letter_plain, digit_plain, digit_no_letter, bit_letter, wide_plain, begins_cons, ascii_content, none_some, head_of, character_there, some_if, right_character}
+use Rattle.ams_lexer.specs.Strings.{spelled, ends, is_in_line, is_comment_byte, front_length, is_bit_letter, bit_width, is_bit_digit}
+use Rattle.ams_lexer.specs.Marks.{IsMark, mark_at}
+use Rattle.ams_lexer.specs.Pieces.{Means, is_separator, opens_comment, IsComment, IsSeparator, opens_bits, IsIdentifier, IsCharacter, IsString, IsBits, IsCharacterAt, IsLineEnd, is_wide, HasWideComment, HasWideString, HasBadNumber, HasBadBits, HasOpenString, HasOpenBits, HasBadCharacter, HasFault, Reading, found, refused, bits_at, word_at, text_at, comment_at, number_or_fault, is_printable, character_at, mark_piece_at, piece_at}
+use Rattle.ams_lexer.proofs.RunLaws.{run_length-append}
+use Rattle.ams_lexer.proofs.NumberLaws.{finds_number, number_again}
+use Rattle.ams_lexer.proofs.StringLaws.{front_length-append, front_length-all, front_length-whole, body_length-spelled}
+use Rattle.ams_lexer.proofs.MarkLaws.{finds_mark, mark_again}
+use Rattle.ams_lexer.proofs.PieceLaws.{letter_plain, digit_plain, digit_no_letter, bit_letter, wide_plain, begins_cons, head_of, right_character}
 
 -- what stands at the front of bytes, if there are any
 abbrev pub reading : Bool → List ℕ → Reading

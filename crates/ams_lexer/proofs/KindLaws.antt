@@ -1,5 +1,5 @@
 -- The kind that a piece is given.
-use Rattle.std.proofs.Common.{◌≡◌, ℕ, zero, suc, ◌+◌, ◌-◌, ◌≤◌, ◌<◌, Bool, true, false, List, [], ◌∷◌, ◌++◌, length, take, drop, get_or, map, Option, Some, None, refl, sym, ap, subst, ◌∙◌, arith, inl, inr}
+use Rattle.std.proofs.Common.{◌≡◌, ℕ, suc, ◌-◌, ◌≤◌, Bool, true, false, List, [], ◌∷◌, ◌++◌, length, take, get_or, map, Option, Some, None, refl, sym, ap, subst, ◌∙◌, arith, inl, inr}
 use Rattle.std.specs.Prelude.{slice_get}
 use Rattle.std.specs.Option.{option_map}
 use Rattle.std.specs.List.{list_all}
@@ -12,12 +12,11 @@ use Rattle.ams_token.specs.Spelling.{word_text}
 use Rattle.ams_token.specs.NameTable.{with_name}
 use Rattle.ams_lexer.specs.declared.numbers.Number.{Number}
 use Rattle.ams_lexer.specs.declared.numbers.Number.TheVariants as n
-use Rattle.ams_lexer.specs.declared.pieces.Piece.{Piece}
 use Rattle.ams_lexer.specs.declared.pieces.Piece.TheVariants as p
-use Rattle.ams_lexer.specs.Strings.{between, spelled, undoubled, bit_width, bit_text, is_bit_digit}
-use Rattle.ams_lexer.specs.Pieces.{Lexeme, reserved, name, number, character, string, bits, mark, is_reference, is_right_paren, takes_attribute, Means, IsIdentifier, IsString, IsBits, IsLexeme, IsSeparator, IsComment}
-use Rattle.ams_lexer.specs.Texts.{IsPiece, with_text, lexeme_of}
-use Rattle.ams_lexer.specs.Kinds.{Puts, IsWord, PutsIfToken, Tells, takes_attribute_kind}
+use Rattle.ams_lexer.specs.Strings.{between, spelled, undoubled, bit_width, bit_text}
+use Rattle.ams_lexer.specs.Pieces.{Lexeme, reserved, name, number, character, string, bits, mark, takes_attribute, Means, IsIdentifier, IsString, IsBits, IsLexeme}
+use Rattle.ams_lexer.specs.Texts.{lexeme_of}
+use Rattle.ams_lexer.specs.Kinds.{Puts, IsWord, Tells, takes_attribute_kind}
 use Rattle.ams_lexer.proofs.StringLaws.{undoubled-spelled}
 use Rattle.ams_lexer.proofs.AgainLaws.{ascii_spelled}
 use Rattle.ams_lexer.proofs.LineLaws.{run_all, word_ascii}

@@ -1,10 +1,8 @@
 -- No token holds a line feed, and each takes at least one byte.
-use Rattle.std.proofs.Common.{◌≡◌, ℕ, zero, suc, ◌+◌, ◌^◌, ◌≤◌, ◌<◌, ◌⊎◌, Bool, true, false, cond, not, ◌&&◌, ◌||◌, eqb, leb, ltb, List, [], ◌∷◌, ◌++◌, length, take, drop, map, Option, Some, None, Result, Ok, Err, refl, sym, ap, subst, ◌∙◌, arith, inl, inr, append_assoc}
-use Rattle.std.proofs.lemmas.Bool.{cond_both, or_cases, or_parts, or_from, or_left, or_right, and_parts, and_from, and_left, and_right, and_cases, cases_Bool, eqb-true, eqb-false, eq-eqb, ne_eqb, leb-true, le-leb, not-true, not-false, not_from_false, not_from_true, cases_eq, false_from_ne_true, lt-ltb, le-ltb, ltb-true, ltb-false}
-use Rattle.std.proofs.Math.Nat.{pow-le-pow_right}
-use Rattle.std.proofs.lemmas.Grind.{common_steps}
+use Rattle.std.proofs.Common.{◌≡◌, ℕ, zero, suc, ◌+◌, ◌≤◌, ◌⊎◌, Bool, true, false, cond, ◌&&◌, eqb, ltb, List, [], ◌∷◌, ◌++◌, length, take, refl, sym, ap, subst, ◌∙◌, arith, inl, inr}
+use Rattle.std.proofs.lemmas.Bool.{or_cases, and_parts, and_from, cases_Bool, eqb-true, ne_eqb, not-true, not_from_false, cases_eq, ltb-true}
 use Rattle.std.proofs.lemmas.Bool.Decides.{nat_tests}
-use Rattle.std.proofs.lemmas.List.{take_at, drop_at, take-append-drop, length-append, length-take-le, drop-drop, take-append-le}
+use Rattle.std.proofs.lemmas.List.{length-append, take-append-le}
 use Rattle.std.specs.List.{list_all}
 use Rattle.std.specs.Char.{digit_value, is_ascii, is_ascii_alphabetic, is_ascii_alphanumeric}
 use Rattle.ams_token.specs.declared.mark.Mark.{Mark}
@@ -15,20 +13,15 @@ use Rattle.ams_lexer.specs.declared.pieces.Piece.{Piece}
 use Rattle.ams_lexer.specs.declared.pieces.Piece.TheVariants as p
 use Rattle.ams_lexer.specs.declared.pieces.Cause.{Cause}
 use Rattle.ams_lexer.specs.declared.pieces.Cause.TheVariants as cause
-use Rattle.ams_lexer.specs.Runs.{begins, goes_on, IsRun, run_length}
-use Rattle.ams_lexer.specs.Numbers.{digit, IsNumber, integer, real, based, number_at}
-use Rattle.ams_lexer.specs.Strings.{spelled, ends, is_in_line, is_comment_byte, body_length, undoubled, front_length, is_bit_letter, bit_width, is_bit_digit, bit_text}
-use Rattle.ams_lexer.specs.Marks.{IsMark, single_mark, pair_mark, of_length, or_else, mark_at}
-use Rattle.ams_lexer.specs.Pieces.{Means, is_separator, opens_comment, IsComment, IsSeparator, opens_bits, IsIdentifier, IsCharacter, IsString, IsBits, IsCharacterAt, IsLineEnd, is_wide, HasWideComment, HasWideString, HasBadNumber, HasBadBits, HasOpenString, HasOpenBits, HasBadCharacter, HasFault, Reading, found, refused, bits_at, word_at, text_at, comment_at, number_or_fault, mark_or_fault, is_printable, character_at, character_or, mark_piece_at, piece_at}
-use Rattle.ams_lexer.proofs.RunLaws.{TakesRun, takes_run, run_length-append, run_length-bound}
-use Rattle.ams_lexer.proofs.NumberLaws.{Finds, finds_number, number_again}
-use Rattle.ams_lexer.proofs.StringLaws.{TakesFront, takes_front, front_length-append, front_length-all, front_length-whole, TakesBody, takes_body, undoubled-spelled, body_length-spelled}
-use Rattle.ams_lexer.proofs.MarkLaws.{some_text, FindsMark, finds_mark, mark_again}
-use Rattle.ams_lexer.proofs.PieceLaws.{right_piece, letter_plain, digit_plain, digit_no_letter, bit_letter, wide_plain, begins_cons, ascii_content, none_some, head_of, character_there, some_if, right_character}
-use Rattle.std.specs.List.{flat_map}
+use Rattle.ams_lexer.specs.Runs.{begins, IsRun}
+use Rattle.ams_lexer.specs.Numbers.{digit, IsNumber, integer, real, based}
+use Rattle.ams_lexer.specs.Strings.{spelled, is_in_line, is_comment_byte, is_bit_letter, bit_width}
+use Rattle.ams_lexer.specs.Pieces.{Means, HasFault}
+use Rattle.ams_lexer.proofs.StringLaws.{takes_front}
+use Rattle.ams_lexer.proofs.MarkLaws.{some_text}
 use Rattle.std.proofs.lemmas.List.Folds.{list_all-append}
 use Rattle.ams_token.specs.declared.token.Place.{Place}
-use Rattle.ams_lexer.specs.Numbers.{IsDigits, IsExponent, is_sign, is_marker, unsigned, sign_length, IsInteger, IsReal, IsBased}
+use Rattle.ams_lexer.specs.Numbers.{IsDigits, IsExponent, is_sign, is_marker, unsigned}
 use Rattle.ams_lexer.specs.Texts.{place_at, place_after}
 use Rattle.ams_lexer.proofs.AgainLaws.{number_first, digits_spelled, small_width}
 

@@ -1,14 +1,14 @@
 -- Reading a number from the left gives the number that the bytes spell, and none where they spell none.
-use Rattle.std.proofs.Common.{◌≡◌, ℕ, zero, suc, ◌+◌, ◌-◌, ◌≤◌, ◌<◌, Bool, true, false, cond, not, ◌&&◌, ◌||◌, eqb, leb, List, [], ◌∷◌, ◌++◌, length, take, drop, Option, Some, None, refl, sym, ap, subst, ◌∙◌, arith, inl, inr, ◌⊎◌, append_assoc}
+use Rattle.std.proofs.Common.{◌≡◌, ℕ, zero, suc, ◌+◌, ◌≤◌, Bool, true, false, cond, not, ◌&&◌, eqb, leb, List, [], ◌∷◌, ◌++◌, length, take, drop, Option, Some, None, refl, sym, ap, subst, ◌∙◌, arith, inl, inr, ◌⊎◌, append_assoc}
 use Rattle.std.specs.Prelude.{pos, ◌-ℤ◌}
-use Rattle.std.proofs.lemmas.Bool.{le-ltb, ne_eqb, or_cases, or_parts, or_from, or_left, or_right, and_parts, and_from, and_left, and_right, cases_Bool, false_from_ne_true, eqb-true, leb-true, le-leb, not-true, not_from_false, cond-true}
-use Rattle.std.proofs.lemmas.List.{take_all, drop-drop, take_at, drop_at, take-append-drop, length-append, length-take, length-take-le, append-nil}
-use Rattle.std.specs.Char.{is_digit, is_ascii_alphabetic}
-use Rattle.ams_lexer.specs.Runs.{begins, goes_on, IsRun, run_length}
+use Rattle.std.proofs.lemmas.Bool.{le-ltb, ne_eqb, or_cases, or_from, or_left, or_right, and_parts, and_from, and_left, cases_Bool, false_from_ne_true, eqb-true, leb-true, le-leb, not-true, not_from_false}
+use Rattle.std.proofs.lemmas.List.{take_all, take_at, drop_at, take-append-drop, length-append, length-take-le}
+use Rattle.std.specs.Char.{is_ascii_alphabetic}
+use Rattle.ams_lexer.specs.Runs.{begins, goes_on, run_length}
 use Rattle.ams_lexer.specs.declared.numbers.Number.{Number}
 use Rattle.ams_lexer.specs.declared.numbers.Number.TheVariants.{Int, Real}
-use Rattle.ams_lexer.specs.Numbers.{integer_of, decimal_of, IsInteger, IsReal, IsBased, IsNumber, integer, real, based, integer_at, real_at, real_from, based_from, based_at, based_digits_at, number_from, number_at, digit, IsDigits, value_after, value_of, digit_count, is_marker, is_sign, sign_length, unsigned, IsExponent, magnitude, is_negative, signed_exponent, follows, Closes, is_empty, exponent_length, closes}
-use Rattle.ams_lexer.proofs.RunLaws.{TakesRun, takes_run, run_length-append, run_length-bound}
+use Rattle.ams_lexer.specs.Numbers.{integer_of, decimal_of, IsInteger, IsReal, IsBased, IsNumber, integer, real, based, integer_at, real_at, real_from, based_from, based_at, based_digits_at, number_from, number_at, digit, IsDigits, value_after, value_of, digit_count, is_marker, is_sign, sign_length, unsigned, IsExponent, magnitude, signed_exponent, follows, Closes, is_empty, exponent_length, closes}
+use Rattle.ams_lexer.proofs.RunLaws.{takes_run, run_length-append, run_length-bound}
 
 -- ---- single bytes
 

@@ -1,5 +1,5 @@
 -- A text is cut in one way.
-use Rattle.std.proofs.Common.{◌≡◌, ℕ, zero, suc, ◌+◌, ◌≤◌, ◌⊎◌, Bool, true, false, List, [], ◌∷◌, ◌++◌, length, take, drop, get_or, map, Option, Some, None, Result, Ok, Err, refl, sym, ap, subst, ◌∙◌, arith, inl, inr}
+use Rattle.std.proofs.Common.{◌≡◌, ℕ, ◌+◌, ◌≤◌, Bool, true, false, List, [], ◌∷◌, ◌++◌, length, take, drop, get_or, map, Option, Some, None, Result, Ok, Err, refl, sym, ap, subst, ◌∙◌, arith, inl, inr}
 use Rattle.std.proofs.lemmas.List.{take_at, drop_at, length-append}
 use Rattle.std.proofs.lemmas.Bool.{cases_Bool}
 use Rattle.std.proofs.lemmas.Slice.Eq.{bytes_eq-Decides}
@@ -8,7 +8,6 @@ use Rattle.std.specs.Str.{bytes_eq}
 use Rattle.std.specs.List.{find}
 use Rattle.ams_token.specs.declared.word.Word.{Word}
 use Rattle.ams_token.specs.Spelling.{word_text}
-use Rattle.ams_lexer.specs.declared.numbers.Number.{Number}
 use Rattle.ams_lexer.specs.declared.pieces.Piece.{Piece}
 use Rattle.ams_lexer.specs.declared.pieces.Piece.TheVariants as p
 use Rattle.ams_lexer.specs.declared.pieces.Cause.{Cause}
@@ -16,16 +15,16 @@ use Rattle.ams_lexer.specs.declared.pieces.Cause.TheVariants as cause
 use Rattle.ams_lexer.specs.Runs.{begins}
 use Rattle.ams_lexer.specs.Numbers.{digit}
 use Rattle.ams_lexer.specs.Strings.{between, undoubled, bit_text, bit_width}
-use Rattle.ams_lexer.specs.Pieces.{Lexeme, reserved, name, number, character, string, bits, mark, takes_attribute, Means, IsIdentifier, IsSeparator, IsComment, IsLexeme, HasFault, is_wide, Reading, found, refused}
+use Rattle.ams_lexer.specs.Pieces.{Lexeme, reserved, name, number, character, string, bits, mark, Means, IsLexeme, HasFault, is_wide, found, refused}
 use Rattle.std.specs.Prelude.{IfOk, IfErr, IsErrAnd}
 use Rattle.ams_token.specs.declared.token.Place.{Place}
 use Rattle.ams_token.specs.declared.tokens.Tokens.{Tokens}
 use Rattle.ams_lexer.specs.declared.fault.LexFault.{LexFault}
 use Rattle.ams_lexer.specs.declared.fault.LexFault.TheVariants as fault
-use Rattle.ams_lexer.specs.Texts.{StopsAt, HasTokens, IsFaultOf, IsRefusal, fault_of, fault_place, Cut, IsBlank, IsPiece, attribute_after, IsCut}
+use Rattle.ams_lexer.specs.Texts.{StopsAt, HasTokens, IsFaultOf, IsRefusal, fault_of, fault_place, Cut, IsPiece, attribute_after, IsCut}
 use Rattle.ams_lexer.proofs.AgainLaws.{reading, again, again_fault}
 use Rattle.ams_lexer.proofs.KindLaws.{string_content, bits_content}
-use Rattle.ams_lexer.proofs.LineLaws.{takes_some, Before, before_fault}
+use Rattle.ams_lexer.proofs.LineLaws.{takes_some}
 use Rattle.ams_lexer.proofs.WordLaws.{find_word, find_word-text, all_words}
 
 -- ---- what a piece and its bytes say of the token

@@ -1,28 +1,24 @@
 -- What is read at a place stands there, and what stands there is read.
-use Rattle.std.proofs.Common.{◌≡◌, ℕ, zero, suc, ◌+◌, ◌≤◌, ◌<◌, ◌⊎◌, Bool, true, false, cond, not, ◌&&◌, ◌||◌, eqb, leb, ltb, List, [], ◌∷◌, ◌++◌, length, take, drop, map, Option, Some, None, Result, Ok, Err, refl, sym, ap, subst, ◌∙◌, arith, inl, inr, append_assoc}
-use Rattle.std.proofs.lemmas.Bool.{cond_both, or_cases, or_parts, or_from, or_left, or_right, and_parts, and_from, and_left, and_right, and_cases, cases_Bool, eqb-true, eqb-false, eq-eqb, ne_eqb, leb-true, le-leb, not-true, not-false, not_from_false, not_from_true, cases_eq, false_from_ne_true, lt-ltb, le-ltb, ltb-true, ltb-false}
-use Rattle.std.proofs.lemmas.Grind.{common_steps}
+use Rattle.std.proofs.Common.{◌≡◌, ℕ, suc, ◌+◌, Bool, true, false, cond, not, ◌&&◌, eqb, leb, ltb, List, [], ◌∷◌, ◌++◌, length, take, drop, Option, Some, None, refl, sym, ap, subst, ◌∙◌, arith, inl, inr, append_assoc}
+use Rattle.std.proofs.lemmas.Bool.{cond_both, or_cases, or_left, and_parts, and_from, and_cases, eqb-true, eqb-false, eq-eqb, ne_eqb, leb-true, le-leb, not-true, not-false, not_from_false, cases_eq, false_from_ne_true}
 use Rattle.std.proofs.lemmas.Bool.Decides.{nat_tests}
-use Rattle.std.proofs.lemmas.List.{take_at, drop_at, take-append-drop, length-append, length-take-le, drop-drop}
+use Rattle.std.proofs.lemmas.List.{take-append-drop, length-append, length-take-le}
 use Rattle.std.specs.List.{list_all}
 use Rattle.std.specs.Char.{is_ascii, is_ascii_alphabetic, is_ascii_alphanumeric}
 use Rattle.ams_token.specs.declared.mark.Mark.{Mark}
 use Rattle.ams_token.specs.declared.mark.Mark.TheVariants as m
 use Rattle.ams_token.specs.Spelling.{mark_text}
 use Rattle.ams_lexer.specs.declared.numbers.Number.{Number}
-use Rattle.ams_lexer.specs.declared.pieces.Piece.{Piece}
 use Rattle.ams_lexer.specs.declared.pieces.Piece.TheVariants as p
-use Rattle.ams_lexer.specs.declared.pieces.Cause.{Cause}
-use Rattle.ams_lexer.specs.declared.pieces.Cause.TheVariants as cause
-use Rattle.ams_lexer.specs.Runs.{begins, goes_on, IsRun, run_length}
-use Rattle.ams_lexer.specs.Numbers.{digit, IsNumber, number_at}
-use Rattle.ams_lexer.specs.Strings.{spelled, ends, is_in_line, is_comment_byte, body_length, undoubled, front_length, is_bit_letter, bit_width, is_bit_digit, bit_text}
-use Rattle.ams_lexer.specs.Marks.{IsMark, single_mark, pair_mark, of_length, or_else, mark_at}
-use Rattle.ams_lexer.specs.Pieces.{Stands, Right, Means, is_separator, opens_comment, IsComment, IsSeparator, opens_bits, IsIdentifier, IsCharacter, IsString, IsBits, IsCharacterAt, IsLineEnd, is_wide, HasWideComment, HasWideString, HasBadNumber, HasBadBits, HasOpenString, HasOpenBits, HasBadCharacter, HasFault, Reading, found, refused, bits_at, word_at, text_at, comment_at, number_or_fault, mark_or_fault, is_printable, character_at, character_or, mark_piece_at, piece_at}
-use Rattle.ams_lexer.proofs.RunLaws.{TakesRun, takes_run, run_length-append, run_length-bound}
-use Rattle.ams_lexer.proofs.NumberLaws.{Finds, finds_number, number_again}
-use Rattle.ams_lexer.proofs.StringLaws.{TakesFront, takes_front, front_length-append, front_length-all, front_length-whole, TakesBody, takes_body, undoubled-spelled, body_length-spelled}
-use Rattle.ams_lexer.proofs.MarkLaws.{some_text, FindsMark, finds_mark, mark_again}
+use Rattle.ams_lexer.specs.Runs.{begins, goes_on, run_length}
+use Rattle.ams_lexer.specs.Numbers.{digit, number_at}
+use Rattle.ams_lexer.specs.Strings.{spelled, ends, is_comment_byte, body_length, undoubled, front_length, is_bit_letter, bit_width, is_bit_digit, bit_text}
+use Rattle.ams_lexer.specs.Marks.{single_mark, pair_mark, of_length, or_else, mark_at}
+use Rattle.ams_lexer.specs.Pieces.{Stands, Right, is_separator, opens_comment, opens_bits, IsCharacterAt, IsLineEnd, is_wide, found, bits_at, word_at, text_at, comment_at, number_or_fault, mark_or_fault, is_printable, character_at, character_or, mark_piece_at, piece_at}
+use Rattle.ams_lexer.proofs.RunLaws.{takes_run, run_length-bound}
+use Rattle.ams_lexer.proofs.NumberLaws.{finds_number, number_again}
+use Rattle.ams_lexer.proofs.StringLaws.{takes_front, front_length-all, front_length-whole, takes_body}
+use Rattle.ams_lexer.proofs.MarkLaws.{some_text, finds_mark}
 
 -- ---- classes of bytes that are apart
 

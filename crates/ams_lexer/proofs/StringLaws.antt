@@ -1,8 +1,8 @@
 -- Reading a string from the left finds its content, and nothing else.
-use Rattle.std.proofs.Common.{◌≡◌, ℕ, zero, suc, ◌+◌, ◌-◌, ◌≤◌, ◌<◌, ◌⊎◌, Bool, true, false, cond, not, ◌&&◌, ◌||◌, eqb, if◌then◌else◌, List, [], ◌∷◌, ◌++◌, length, take, drop, get_or, refl, sym, ap, subst, ◌∙◌, arith, inl, inr, append_assoc}
-use Rattle.std.proofs.lemmas.Bool.{or_cases, or_parts, or_from, or_left, or_right, and_parts, and_from, and_left, and_right, and_cases, cases_Bool, eqb-true, eq-eqb, ne_eqb, not-true, not-false, not_from_false, not_from_true, cases_eq}
-use Rattle.std.proofs.lemmas.List.{length-append, drop_more, drop-drop}
-use Rattle.std.specs.List.{flat_map, list_all}
+use Rattle.std.proofs.Common.{◌≡◌, ℕ, suc, ◌+◌, ◌≤◌, ◌<◌, ◌⊎◌, Bool, true, false, cond, not, ◌&&◌, eqb, if◌then◌else◌, List, [], ◌∷◌, ◌++◌, length, take, drop, get_or, refl, sym, ap, subst, ◌∙◌, arith, inl, inr, append_assoc}
+use Rattle.std.proofs.lemmas.Bool.{or_parts, or_from, and_parts, and_from, and_left, and_cases, cases_Bool, eqb-true, eq-eqb, ne_eqb, not-true, not-false, not_from_false, cases_eq}
+use Rattle.std.proofs.lemmas.List.{drop_more}
+use Rattle.std.specs.List.{list_all}
 use Rattle.ams_lexer.specs.Runs.{begins}
 use Rattle.ams_lexer.specs.Strings.{doubled, spelled, ends, is_in_line, body_length, undoubled, front_length}
 

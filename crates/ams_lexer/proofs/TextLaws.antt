@@ -1,10 +1,10 @@
 -- One more piece of a text, and what the pieces say of its tokens.
-use Rattle.std.proofs.Common.{◌≡◌, ℕ, zero, suc, ◌+◌, ◌-◌, ◌≤◌, ◌<◌, ◌⊎◌, Bool, true, false, cond, eqb, List, [], ◌∷◌, ◌++◌, length, take, drop, get_or, map, fold, Option, Some, None, refl, sym, ap, subst, ◌∙◌, arith, inl, inr, append_assoc}
+use Rattle.std.proofs.Common.{◌≡◌, ℕ, zero, suc, ◌+◌, ◌-◌, ◌≤◌, ◌<◌, Bool, true, false, cond, eqb, List, [], ◌∷◌, ◌++◌, length, take, drop, get_or, map, fold, Option, Some, None, refl, sym, ap, subst, ◌∙◌, arith, inl, inr, append_assoc}
 use Rattle.std.specs.Prelude.{slice_get}
 use Rattle.std.specs.Option.{option_map}
-use Rattle.std.specs.List.{list_all, flat_map, list_any}
+use Rattle.std.specs.List.{list_all, list_any}
 use Rattle.std.specs.Str.{bytes_eq}
-use Rattle.std.proofs.lemmas.Bool.{eqb-true, eq-eqb, cases_Bool}
+use Rattle.std.proofs.lemmas.Bool.{eqb-true, cases_Bool}
 use Rattle.std.proofs.lemmas.List.{take_at, drop_at, length-append, append-nil, take-append-drop, length-take-le, drop-drop, map-append, length-drop, drop_all, take_all}
 use Rattle.std.proofs.lemmas.List.Concat.{flat_map-append}
 use Rattle.ams_token.specs.declared.token.Place.{Place}
@@ -13,17 +13,16 @@ use Rattle.ams_token.specs.declared.tokens.Tokens.{Tokens}
 use Rattle.ams_token.specs.declared.token.TokenKind.{TokenKind}
 use Rattle.ams_token.specs.declared.token.TokenKind.TheVariants as kind
 use Rattle.ams_token.specs.NameTable.{known_names, with_name}
-use Rattle.ams_lexer.specs.declared.numbers.Number.TheVariants as n
 use Rattle.ams_lexer.specs.declared.pieces.Piece.{Piece}
 use Rattle.ams_lexer.specs.declared.pieces.Piece.TheVariants as p
 use Rattle.ams_lexer.specs.declared.pieces.Cause.{Cause}
 use Rattle.ams_lexer.specs.Strings.{is_in_line}
 use Rattle.ams_lexer.specs.Pieces.{Lexeme, reserved, name, number, character, string, bits, mark, takes_attribute, Means, HasFault, IsComment, IsLexeme, Stands}
-use Rattle.ams_lexer.specs.Texts.{fault_of, HasTokens, IsBlank, StopsAt, IsFaultOf, Cut, IsPiece, attribute_after, IsCut, bytes_of, Placed, placed, tokens_after, with_text, names_of, lexeme_of, placed_of, place_at, place_after, first_place}
+use Rattle.ams_lexer.specs.Texts.{fault_of, HasTokens, IsBlank, StopsAt, IsFaultOf, Cut, IsPiece, attribute_after, IsCut, bytes_of, Placed, placed, tokens_after, with_text, lexeme_of, placed_of, place_at, place_after, first_place}
 use Rattle.ams_lexer.specs.Progress.{IsCutTo, IsInLine, IsProgress, skipped, IsPushed}
 use Rattle.ams_lexer.specs.declared.lexer.Lexer.{Lexer}
 use Rattle.ams_lexer.proofs.KindLaws.{takes_same}
-use Rattle.ams_lexer.proofs.LineLaws.{place_after-append, place_in_line, Before, before_fault, in_line, takes_some}
+use Rattle.ams_lexer.proofs.LineLaws.{place_after-append, place_in_line, before_fault, in_line, takes_some}
 use Rattle.ams_lexer.specs.declared.pieces.Cause.TheVariants as cause
 use Rattle.ams_lexer.specs.Kinds.{Puts, PutsIfToken, Tells}
 

@@ -1,12 +1,12 @@
 -- The digits of a number of at most 32 bytes fit 128 bits.
-use Rattle.std.proofs.Common.{◌≡◌, ℕ, zero, suc, ◌+◌, ◌-◌, ◌*◌, ◌^◌, ◌≤◌, ◌<◌, ◌⊎◌, Bool, true, false, cond, ◌&&◌, ◌||◌, eqb, List, [], ◌∷◌, length, get_or, take, drop, refl, sym, ap, subst, ◌∙◌, arith, inl, inr}
+use Rattle.std.proofs.Common.{◌≡◌, ℕ, zero, suc, ◌+◌, ◌-◌, ◌*◌, ◌^◌, ◌≤◌, ◌<◌, ◌⊎◌, Bool, true, false, cond, ◌&&◌, eqb, List, [], ◌∷◌, length, get_or, take, drop, refl, sym, ap, ◌∙◌, arith, inl, inr}
 use Rattle.std.proofs.Math.Nat.{one-le-pow, pow-suc, pow-le-pow_right, mul-le-mul_left}
 use Rattle.std.proofs.lemmas.Bool.{eq-eqb, cases_eq, or_cases, and_parts, eqb-true, ltb-true, ne_eqb}
 use Rattle.std.proofs.lemmas.List.{drop_more}
 use Rattle.std.specs.Char.{digit_value}
 use Rattle.ams_lexer.specs.Runs.{begins, goes_on, IsRun}
 use Rattle.ams_lexer.proofs.NumberLaws.{exponent_takes}
-use Rattle.ams_lexer.specs.Numbers.{exponent_length, digit, IsDigits, value_after, IsExponent, unsigned, sign_length, is_sign}
+use Rattle.ams_lexer.specs.Numbers.{exponent_length, digit, IsDigits, value_after, IsExponent, unsigned}
 
 pub larger : (n base d k m : ℕ) → m ≡ k + 1 → base ≤ 16 → n < 16 ^ k → d < base → n * base + d < 16 ^ m
 larger n base d k m next small below digit =

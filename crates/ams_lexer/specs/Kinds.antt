@@ -1,5 +1,5 @@
 -- The kind that the program gives a token.
-use Rattle.std.specs.Prelude.{◌≡◌, ℕ, Bool, true, false, List, [], ◌∷◌, Option, Some, None}
+use Rattle.std.specs.Prelude.{◌≡◌, ℕ, Bool, true, false, List, Option, Some, None}
 use Rattle.ams_token.specs.declared.token.TokenKind.{TokenKind}
 use Rattle.ams_token.specs.declared.token.TokenKind.TheVariants as kind
 use Rattle.ams_token.specs.declared.word.Word.{Word}

@@ -1,5 +1,5 @@
 -- Delimiters (IEEE 1076, "Delimiters"): the longest one that stands at the front.
-use Rattle.std.specs.Prelude.{◌≡◌, ℕ, ◌≤◌, Bool, ◌&&◌, ◌==◌, List, [], ◌∷◌, ◌++◌, length, Option, Some, None, if◌then◌else◌}
+use Rattle.std.specs.Prelude.{◌≡◌, ℕ, ◌≤◌, ◌&&◌, ◌==◌, List, [], ◌∷◌, ◌++◌, length, Option, Some, None, if◌then◌else◌}
 use Rattle.ams_token.specs.declared.mark.Mark.{Mark}
 use Rattle.ams_token.specs.declared.mark.Mark.TheVariants as m
 use Rattle.ams_token.specs.Spelling.{mark_text}

@@ -1,24 +1,21 @@
 -- What stands at a place of a text: a separator, a comment, a token, or a fault (IEEE 1076, "Lexical elements").
-use Rattle.std.specs.Prelude.{◌≡◌, ℕ, suc, ◌+◌, ◌<◌, ◌≤◌, ◌⊎◌, Bool, true, false, not, ◌&&◌, ◌||◌, ◌==◌, nat_le, nat_lt, List, [], ◌∷◌, ◌++◌, length, take, drop, map, Option, Some, None, Result, Ok, Err, if◌then◌else◌}
+use Rattle.std.specs.Prelude.{◌≡◌, ℕ, suc, ◌+◌, ◌≤◌, ◌⊎◌, Bool, true, false, not, ◌&&◌, ◌||◌, ◌==◌, nat_le, List, [], ◌∷◌, ◌++◌, length, take, drop, map, Option, Some, None, Result, Ok, Err, if◌then◌else◌}
 use Rattle.std.specs.List.{list_all}
 use Rattle.std.specs.Char.{is_ascii, is_ascii_alphabetic, is_ascii_alphanumeric, to_ascii_lowercase}
 use Rattle.ams_token.specs.declared.mark.Mark.{Mark}
 use Rattle.ams_token.specs.declared.mark.Mark.TheVariants as m
 use Rattle.ams_token.specs.declared.word.Word.{Word}
 use Rattle.ams_token.specs.declared.word.Word.TheVariants as w
-use Rattle.ams_token.specs.declared.token.Integer.{Integer}
-use Rattle.ams_token.specs.declared.token.Decimal.{Decimal}
 use Rattle.ams_token.specs.Spelling.{word_text, mark_text}
 use Rattle.ams_lexer.specs.declared.numbers.Number.{Number}
-use Rattle.ams_lexer.specs.declared.numbers.Number.TheVariants as n
 use Rattle.ams_lexer.specs.declared.pieces.Piece.{Piece}
 use Rattle.ams_lexer.specs.declared.pieces.Piece.TheVariants as p
 use Rattle.ams_lexer.specs.declared.pieces.Cause.{Cause}
 use Rattle.ams_lexer.specs.declared.pieces.Cause.TheVariants as cause
 use Rattle.ams_lexer.specs.Runs.{begins, goes_on, IsRun, run_length}
 use Rattle.ams_lexer.specs.Numbers.{digit, IsNumber, number_at}
-use Rattle.ams_lexer.specs.Strings.{spelled, ends, is_in_line, is_comment_byte, body_length, undoubled, front_length, is_bit_letter, bit_width, is_bit_digit, bit_text}
-use Rattle.ams_lexer.specs.Marks.{IsMark, single_mark, mark_at}
+use Rattle.ams_lexer.specs.Strings.{spelled, ends, is_in_line, is_comment_byte, body_length, front_length, is_bit_letter, bit_width, is_bit_digit, bit_text}
+use Rattle.ams_lexer.specs.Marks.{IsMark, mark_at}
 
 -- ---- tokens with their content
 

@@ -12,3 +12,6 @@ mod strings;
 
 pub use fault::LexFault;
 pub use lexer::{has_one_cut, lex};
+
+#[cfg(test)]
+mod tests;

@@ -1,6 +1,4 @@
-use Rattle.std.proofs.Common.{◌≡◌, sym, ap, ◌∙◌, refl, subst}
-use Rattle.ams_token.specs.Spelling.{word_text}
-use Rattle.ams_lexer.specs.Pieces.{reserved, name}
+use Rattle.std.proofs.Common.{◌∙◌}
 use Rattle.ams_lexer.proofs.KindLaws.{puts_word, puts_name}
 use Rattle.ams_lexer.proofs.kinds.identifier_kind.Goals as goal
 

@@ -1,12 +1,10 @@
-use Rattle.std.proofs.Common.{◌≡◌, ℕ, false, List, get_or, Some, sym, ap, subst, ◌∙◌}
+use Rattle.std.proofs.Common.{ℕ, false, List, get_or, ap, subst, ◌∙◌}
 use Rattle.std.specs.List.{list_all}
 use Rattle.std.specs.Char.{is_ascii}
 use Rattle.ams_lexer.specs.declared.pieces.Piece.{Piece}
-use Rattle.ams_lexer.specs.declared.pieces.Piece.TheVariants as p
-use Rattle.ams_lexer.specs.declared.numbers.Number.TheVariants as n
 use Rattle.ams_lexer.specs.Pieces.{bits, string, Means}
 use Rattle.ams_lexer.specs.Strings.{bit_text, bit_width, undoubled}
-use Rattle.ams_lexer.specs.Kinds.{Tells, Puts}
+use Rattle.ams_lexer.specs.Kinds.{Puts}
 use Rattle.ams_lexer.proofs.KindLaws.{tells_word, tells_number, tells_character, tells_mark, tells_string, tells_bits, string_ascii, word_is_ascii}
 use Rattle.ams_lexer.proofs.kinds.kind_of.Goals as goal
 

@@ -1,5 +1,3 @@
-use Rattle.std.proofs.lemmas.List.{length-take-le}
-use Rattle.ams_lexer.specs.Numbers.{exponent_length}
 use Rattle.ams_lexer.proofs.ValueLaws.{exponent_spelled}
 use Rattle.ams_lexer.proofs.numbers.split_exponent.Goals as goal
 

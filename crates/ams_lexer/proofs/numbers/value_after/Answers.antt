@@ -1,6 +1,5 @@
-use Rattle.std.proofs.Common.{◌<◌, ◌≤◌, ◌^◌, ◌-◌, ◌+◌, ◌*◌, length, get_or, arith, sym, ap, subst, ◌∙◌}
+use Rattle.std.proofs.Common.{◌-◌, ◌+◌, length, get_or, arith, sym, ◌∙◌}
 use Rattle.std.specs.Char.{digit_value}
-use Rattle.ams_lexer.specs.Numbers.{value_after}
 use Rattle.ams_lexer.proofs.ValueLaws.{larger, fits, same_room, digit_below, value_after-digit, value_after-underscore}
 use Rattle.ams_lexer.proofs.numbers.value_after.Goals as goal
 use Rattle.ams_lexer.proofs.numbers.value_after.Goals.{then-byte-ne95, else-byte-ne95}
