@@ -1,2 +1,3 @@
 pub mod WorkedCycleRows
 pub mod CountingRows
+pub mod WaveformRows

@@ -5,3 +5,4 @@ pub mod Processes
 pub mod Cycles
 pub mod Worked
 pub mod Counting
+pub mod Waveforms

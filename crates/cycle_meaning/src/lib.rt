@@ -4,6 +4,7 @@
 #![tactic(auto)]
 
 ghost use Rattle.cycle_meaning.specs.Counting.{StatementsCount};
+ghost use Rattle.cycle_meaning.specs.Waveforms.{WorkedWaveforms};
 ghost use Rattle.cycle_meaning.specs.Worked.{WorkedCycles};
 
 /// What counts in the budget of a process, and what some statements lead to.
@@ -16,4 +17,10 @@ pub fn statements_count()
 #[tactic(auto, using(crate::proofs::WorkedCycleRows::cycles))]
 pub fn worked_cycles()
     ensures { WorkedCycles }
+{}
+
+/// Small assignments to a driver, worked by hand.
+#[tactic(auto, using(crate::proofs::WaveformRows::waveforms))]
+pub fn worked_waveforms()
+    ensures { WorkedWaveforms }
 {}
