@@ -1,0 +1,3 @@
+pub mod Levels
+pub mod PartsCover
+pub mod PartsSound
