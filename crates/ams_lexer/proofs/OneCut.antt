@@ -25,7 +25,8 @@ use Rattle.ams_lexer.specs.Texts.{StopsAt, HasTokens, IsFaultOf, IsRefusal, faul
 use Rattle.ams_lexer.proofs.AgainLaws.{reading, again, again_fault}
 use Rattle.ams_lexer.proofs.KindLaws.{string_content, bits_content}
 use Rattle.ams_lexer.proofs.LineLaws.{takes_some}
-use Rattle.ams_lexer.proofs.WordLaws.{find_word, find_word-text, all_words}
+use Rattle.ams_token.proofs.ListedWords.{all_word_texts}
+use Rattle.ams_lexer.proofs.WordLaws.{find_word, find_word-text}
 
 -- ---- what a piece and its bytes say of the token
 
@@ -56,7 +57,7 @@ found_text_in text (y ∷ xs) x h =
     ]
 
 found_text : (text : List ℕ) (x : Word) → find_word text ≡ Some x → word_text x ≡ text
-found_text text x h = found_text_in text all_words x h
+found_text text x h = found_text_in text all_word_texts x h
 
 word_found : (x : Word) (text : List ℕ) → word_text x ≡ text → find_word text ≡ Some x
 word_found x text h = ap find_word (sym h) ∙ find_word-text x

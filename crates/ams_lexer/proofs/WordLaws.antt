@@ -1,128 +1,14 @@
 -- Each reserved word is found by its text.
-use Rattle.std.proofs.Common.{◌≡◌, ℕ, List, [], ◌∷◌, Option, Some, refl, sym, ap, ◌∙◌}
+use Rattle.std.proofs.Common.{◌≡◌, ℕ, List, Option, Some, refl, sym, ap, ◌∙◌}
 use Rattle.std.specs.Str.{bytes_eq}
 use Rattle.std.specs.List.{find}
+use Rattle.ams_token.proofs.ListedWords.{all_word_texts}
 use Rattle.ams_token.specs.declared.word.Word.{Word}
 use Rattle.ams_token.specs.declared.word.Word.TheVariants as w
 use Rattle.ams_token.specs.Spelling.{word_text}
 
-abbrev pub all_words : List Word
-all_words =
-    w.Abs ∷
-    w.Access ∷
-    w.Across ∷
-    w.After ∷
-    w.Alias ∷
-    w.All ∷
-    w.And ∷
-    w.Architecture ∷
-    w.Array ∷
-    w.Assert ∷
-    w.Attribute ∷
-    w.Begin ∷
-    w.Block ∷
-    w.Body ∷
-    w.Break ∷
-    w.Buffer ∷
-    w.Bus ∷
-    w.Case ∷
-    w.Component ∷
-    w.Configuration ∷
-    w.Constant ∷
-    w.Disconnect ∷
-    w.Downto ∷
-    w.Else ∷
-    w.Elsif ∷
-    w.End ∷
-    w.Entity ∷
-    w.Exit ∷
-    w.File ∷
-    w.For ∷
-    w.Function ∷
-    w.Generate ∷
-    w.Generic ∷
-    w.Group ∷
-    w.Guarded ∷
-    w.If ∷
-    w.Impure ∷
-    w.In ∷
-    w.Inertial ∷
-    w.Inout ∷
-    w.Is ∷
-    w.Label ∷
-    w.Library ∷
-    w.Limit ∷
-    w.Linkage ∷
-    w.Literal ∷
-    w.Loop ∷
-    w.Map ∷
-    w.Mod ∷
-    w.Nand ∷
-    w.Nature ∷
-    w.New ∷
-    w.Next ∷
-    w.Noise ∷
-    w.Nor ∷
-    w.Not ∷
-    w.Null ∷
-    w.Of ∷
-    w.On ∷
-    w.Open ∷
-    w.Or ∷
-    w.Others ∷
-    w.Out ∷
-    w.Package ∷
-    w.Port ∷
-    w.Postponed ∷
-    w.Procedural ∷
-    w.Procedure ∷
-    w.Process ∷
-    w.Protected ∷
-    w.Pure ∷
-    w.Quantity ∷
-    w.Range ∷
-    w.Record ∷
-    w.Reference ∷
-    w.Register ∷
-    w.Reject ∷
-    w.Rem ∷
-    w.Report ∷
-    w.Return ∷
-    w.Rol ∷
-    w.Ror ∷
-    w.Select ∷
-    w.Severity ∷
-    w.Shared ∷
-    w.Signal ∷
-    w.Sla ∷
-    w.Sll ∷
-    w.Spectrum ∷
-    w.Sra ∷
-    w.Srl ∷
-    w.Subnature ∷
-    w.Subtype ∷
-    w.Terminal ∷
-    w.Then ∷
-    w.Through ∷
-    w.To ∷
-    w.Tolerance ∷
-    w.Transport ∷
-    w.Type ∷
-    w.Unaffected ∷
-    w.Units ∷
-    w.Until ∷
-    w.Use ∷
-    w.Variable ∷
-    w.Wait ∷
-    w.When ∷
-    w.While ∷
-    w.With ∷
-    w.Xnor ∷
-    w.Xor ∷
-    []
-
 abbrev pub find_word : List ℕ → Option Word
-find_word text = find (λ x. bytes_eq text (word_text x)) all_words
+find_word text = find (λ x. bytes_eq text (word_text x)) all_word_texts
 
 pub find_word-text : (x : Word) → find_word (word_text x) ≡ Some x
 find_word-text w.Abs = refl

@@ -6,3 +6,4 @@ pub mod Pieces
 pub mod Texts
 pub mod Kinds
 pub mod Progress
+pub mod Faults

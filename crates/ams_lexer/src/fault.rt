@@ -1,5 +1,6 @@
 ghost use Rattle.std.specs.Prelude.{◌≡◌};
 ghost use Rattle.ams_lexer.specs.declared.fault.LexFault.TheVariants.{Memory};
+ghost use Rattle.ams_lexer.specs.Faults.{code_of};
 
 use ams_token::Place;
 use std::alloc::{AllocError, AllocFailed};
@@ -13,6 +14,21 @@ pub enum LexFault {
     NotAscii(Place),
     /// Memory ran out, or the text is too long to be numbered by 32 bits.
     Memory,
+}
+
+impl LexFault {
+    /// The number of the refusal: 10, 11, 12 or 13. Want of memory refuses no text.
+    pub fn code(self) -> Option<u8>
+        ensures { result ≡ code_of self }
+    {
+        match self {
+            LexFault::BadCharacter(_) => Some(10),
+            LexFault::BadLiteral(_) => Some(11),
+            LexFault::UnclosedString(_) => Some(12),
+            LexFault::NotAscii(_) => Some(13),
+            LexFault::Memory => None,
+        }
+    }
 }
 
 impl From<AllocError> for LexFault {

@@ -470,14 +470,18 @@ const TABLE: &[u8] = b"1__0\x1dfault 11 1 1\x1e\
     \x0b1.0a\x1dfault 10 1 1\x1e\
     O\"8\"==\x1dfault 11 1 1\x1e\
     X%ff%1.0a\x1dfault 10 1 2\x1e\
-    16#1#11.\x1dfault 11 1 6\x1e";
+    16#1#11.\x1dfault 11 1 6\x1e\
+    \"xxxxxxxxxxxxxxxxxxxxxxxxxxxxxxxxxxxxxxxxxxxxxxxxxxxxxxxxxxxxxxxxxxxxxxxxxxxxxxxxxxxxxxxxxxxxxxxxxxxxxxxxxxxxxxxxxxxxxxxxxxxxxxxxxxxxxxxxxxxxxxxxxxxxxxxxxxxxxxxxxxxxxxxxxxxxxxxxxxxxxxxxxxxxxxxxxxxxxxxxxxxxxxxxxxxxxxxxxxxxxxxxxxxxxxxxxxxxxxxxxxxxxxxxxxxxxxxxxxxxxxxxxxxxxxxxxxxxxxxxxxxxxxxxxxxxxxxxxxxx\"\x1dstr xxxxxxxxxxxxxxxxxxxxxxxxxxxxxxxxxxxxxxxxxxxxxxxxxxxxxxxxxxxxxxxxxxxxxxxxxxxxxxxxxxxxxxxxxxxxxxxxxxxxxxxxxxxxxxxxxxxxxxxxxxxxxxxxxxxxxxxxxxxxxxxxxxxxxxxxxxxxxxxxxxxxxxxxxxxxxxxxxxxxxxxxxxxxxxxxxxxxxxxxxxxxxxxxxxxxxxxxxxxxxxxxxxxxxxxxxxxxxxxxxxxxxxxxxxxxxxxxxxxxxxxxxxxxxxxxxxxxxxxxxxxxxxxxxxxxxxxxxxxx 1 1; end 1 303\x1e\
+    \"xxxxxxxxxxxxxxxxxxxxxxxxxxxxxxxxxxxxxxxxxxxxxxxxxxxxxxxxxxxxxxxxxxxxxxxxxxxxxxxxxxxxxxxxxxxxxxxxxxxxxxxxxxxxxxxxxxxxxxxxxxxxxxxxxxxxxxxxxxxxxxxxxxxxxxxxxxxxxxxxxxxxxxxxxxxxxxxxxxxxxxxxxxxxxxxxxxxxxxxxxxxxxxxxxxxxxxxxxxxxxxxxxxxxxxxxxxxxxxxxxxxxxxxxxxxxxxxxxxxxxxxxxxxxxxxxxxxxxxxxxxxxxxxxxxxxxxxxxxxx\"1.0e00000000000000000000000000001\x1dfault 11 1 303\x1e\
+    \"xxxxxxxxxxxxxxxxxxxxxxxxxxxxxxxxxxxxxxxxxxxxxxxxxxxxxxxxxxxxxxxxxxxxxxxxxxxxxxxxxxxxxxxxxxxxxxxxxxxxxxxxxxxxxxxxxxxxxxxxxxxxxxxxxxxxxxxxxxxxxxxxxxxxxxxxxxxxxxxxxxxxxxxxxxxxxxxxxxxxxxxxxxxxxxxxxxxxxxxxxxxxxxxxxxxxxxxxxxxxxxxxxxxxxxxxxxxxxxxxxxxxxxxxxxxxxxxxxxxxxxxxxxxxxxxxxxxxxxxxxxxxxxxxxxxxxxxxxxxx\"$\x1dfault 10 1 303\x1e";
 
 fn code(fault: LexFault) -> Option<(u8, Place)> {
+    let code = fault.code()?;
     match fault {
-        LexFault::BadCharacter(place) => Some((10, place)),
-        LexFault::BadLiteral(place) => Some((11, place)),
-        LexFault::UnclosedString(place) => Some((12, place)),
-        LexFault::NotAscii(place) => Some((13, place)),
+        LexFault::BadCharacter(place)
+        | LexFault::BadLiteral(place)
+        | LexFault::UnclosedString(place)
+        | LexFault::NotAscii(place) => Some((code, place)),
         LexFault::Memory => None,
     }
 }
@@ -581,6 +585,6 @@ fn gives_the_answers_of_the_table(rt: HostRuntime) -> Result<(), Fail> {
         assert!(rt; found.as_bytes() == expected, "{text:?}: {found}");
         rows = rows.wrapping_add(1);
     }
-    assert_eq!(rt; rows, 465);
+    assert_eq!(rt; rows, 468);
     Ok(())
 }
