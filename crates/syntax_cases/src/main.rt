@@ -1,0 +1,52 @@
+//! Reads texts, one a line, and prints what the parser of their kind answers to their tokens.
+#![tactic(auto)]
+
+use ams_lexer::lex;
+use parse_expr::expression;
+use parse_steps::ParseFault;
+use std::alloc::Global;
+use std::io;
+
+/// What an expression is read as from a place on, with so many levels open: the place behind it. None where the words
+/// are no such row.
+fn read_expression(alloc: Global, row: &str) -> Option<Result<usize, ParseFault>> {
+    let (at, rest) = row.split_once(' ')?;
+    let (depth, text) = rest.split_once(' ')?;
+    let at = at.parse::<usize>().ok()?;
+    let depth = depth.parse::<u32>().ok()?;
+    let tokens = lex(alloc, text.as_bytes()).ok()?;
+    if at > tokens.list.len() || depth > 64 {
+        return None;
+    }
+    match expression(alloc, &tokens, at, depth) {
+        Ok((_, place)) => Some(Ok(place)),
+        Err(fault) => Some(Err(fault)),
+    }
+}
+
+fn read(alloc: Global, line: &str) -> Option<Result<usize, ParseFault>> {
+    let (kind, row) = line.split_once(' ')?;
+    match kind {
+        "expression" => read_expression(alloc, row),
+        _ => None,
+    }
+}
+
+fn print(rt: &impl Print, answer: Option<Result<usize, ParseFault>>) -> io::Result<()> {
+    match answer {
+        Some(Ok(place)) => println!(rt; "ok {place}"),
+        Some(Err(ParseFault::Syntax(place))) => println!(rt; "syntax {place}"),
+        Some(Err(ParseFault::TooDeep(place))) => println!(rt; "too_deep {place}"),
+        Some(Err(ParseFault::Memory)) => println!(rt; "memory"),
+        None => println!(rt; "unread"),
+    }
+}
+
+fn main(rt: HostRuntime) -> io::Result<()> {
+    for line in rt.lines(rt.alloc()) {
+        let line = line?;
+        let answer = read(rt.alloc(), line.as_str());
+        print(&rt, answer)?;
+    }
+    Ok(())
+}
