@@ -1,0 +1,3 @@
+pub mod SeqCover
+pub mod SeqSound
+pub mod Called

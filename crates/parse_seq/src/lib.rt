@@ -1,0 +1,2 @@
+//! Reads sequential statements.
+#![tactic(auto)]
