@@ -8,3 +8,6 @@ mod tokens;
 
 pub use compound::any_statement;
 pub use read::{fronts_begin, one_tree, statement};
+
+#[cfg(test)]
+mod tests;
