@@ -1,0 +1,5 @@
+pub mod Waves
+pub mod Choice
+pub mod Ahead
+pub mod ConcSound
+pub mod ConcCover

@@ -1,0 +1,2 @@
+//! Reads concurrent and simultaneous statements.
+#![tactic(auto)]

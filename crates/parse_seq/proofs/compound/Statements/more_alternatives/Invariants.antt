@@ -1,0 +1,7 @@
+use Rattle.std.proofs.Common.{◌≡◌, ◌-◌}
+use Rattle.parse_seq.specs.Parsing.{more_alternatives, alternative_turns, at_level}
+use Rattle.parse_seq.proofs.compound.Statements.more_alternatives.Given as goal
+
+-- what the turns that are left make of the list so far is the whole
+abbrev pub invariant-loop-turn : goal.invariant-loop-turn
+invariant-loop-turn g l = at_level more_alternatives l.self.levels l.fn.all l.fn.reader ≡ at_level alternative_turns l.self.levels (l._turn-end - l._turn) l.all l.reader

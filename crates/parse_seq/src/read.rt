@@ -1,0 +1,58 @@
+ghost use Rattle.std.specs.Prelude.{◌≡◌, ◌≤◌, ◌-◌, ◌++◌, ℕ, List, length, drop};
+ghost use Rattle.ams_token.specs.declared.token.Token.{Token};
+ghost use Rattle.ams_tree.specs.declared.sequential.Seq.{Seq};
+ghost use Rattle.ams_tree.specs.Statements as grammar;
+ghost use Rattle.ams_tree.specs.Answer.{Spells, SpellsWithin, Begins, BeginsWithin};
+ghost use Rattle.parse_steps.specs.Reply.{Answers, IsTree, most_operators};
+
+use crate::compound::any_statement;
+use ams_token::{Token, Tokens};
+use ams_tree::Seq;
+use parse_steps::{ParseFault, Reader, fault_at};
+use std::alloc::Global;
+
+const MOST_LEVELS: u32 = 64;
+
+const MOST_OPERATORS: u32 = 256;
+
+/// Reads the statement that begins at a place, where `depth` levels are open. Answers the tree with the place behind it.
+pub fn statement(
+    alloc: Global,
+    tokens: &Tokens,
+    at: usize,
+    depth: u32,
+) -> Result<(Seq, usize), ParseFault>
+    requires place { at ≤ length tokens.now.list.items }
+    requires open { depth ≤ 64 }
+    // The longest front that begins a statement is one, or the first place where none goes on or a limit is passed.
+    ensures answer { Answers grammar.statement (64 - depth) tokens.now.list.items at result }
+    // What a tree within the limits spells is read as that tree.
+    ensures back { (tree : Seq) → SpellsWithin grammar.statement (64 - depth) most_operators tree (drop at tokens.now.list.items) → IsTree tree (length tokens.now.list.items) result }
+{
+    read(alloc, tokens.list.as_slice(), at, MOST_LEVELS - depth)
+}
+
+fn read(alloc: Global, tokens: &[Token], at: usize, levels: u32) -> Result<(Seq, usize), ParseFault>
+    requires { at ≤ length tokens.now }
+    ensures answer { Answers grammar.statement levels tokens.now at result }
+    ensures back { (tree : Seq) → SpellsWithin grammar.statement levels most_operators tree (drop at tokens.now) → IsTree tree (length tokens.now) result }
+{
+    let mut reader = Reader::new(&tokens[at..], MOST_OPERATORS);
+    match any_statement(alloc, &mut reader, levels) {
+        Ok(tree) => Ok((tree, tokens.len() - reader.left())),
+        Err(stop) => Err(fault_at(stop, tokens.len())),
+    }
+}
+
+/// Two trees that the same tokens spell are equal.
+pub fn one_tree()
+    ensures { (x y : Seq) (tokens : List Token) → Spells grammar.statement x tokens → Spells grammar.statement y tokens → x ≡ y }
+{}
+
+/// Each front of what begins a statement begins one, within the same limits: so the first place past a limit is the
+/// least one.
+pub fn fronts_begin()
+    ensures begins { (front back : List Token) → Begins grammar.statement (front ++ back) → Begins grammar.statement front }
+    ensures within { (levels operators : ℕ) (front back : List Token) → BeginsWithin grammar.statement levels operators (front ++ back) → BeginsWithin grammar.statement levels operators front }
+    ensures spelled { (x : Seq) (tokens : List Token) → Spells grammar.statement x tokens → Begins grammar.statement tokens }
+{}
