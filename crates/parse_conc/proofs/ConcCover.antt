@@ -277,7 +277,7 @@ unfolding G.unlabelled
 unlabelled_alone l d t is = inr (inr (inr (inr (inr (inr (inl (equation_alone l d t is)))))))
 
 pub concurrent_covers : (c n l d : ℕ) → Covers (Exceeded c n l d) false conc_first conc_next (G.concurrent l d) (R.concurrent c n)
-unfolding G.concurrent R.concurrent R.labelled
+unfolding G.concurrent R.concurrent R.labelled R.labelled_statement
 concurrent_covers c n l d = fits conc_first conc_next (named_or (Exceeded c n l d) m.Colon
     (λ name. ends _ (or_ (word w.Entity) (class_tells (W w.Entity)) (instance c n l d) (unlabelled c n l d) refl))
     (fits conc_first conc_next (ends _ (unlabelled c n l d)) refl refl refl)
