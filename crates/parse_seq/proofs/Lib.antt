@@ -1,3 +1,4 @@
+pub mod Below
 pub mod SeqCover
 pub mod SeqSound
 pub mod Called

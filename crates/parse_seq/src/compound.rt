@@ -37,10 +37,11 @@ impl<F: Fn(Global, &mut Reader<'_>, u32) -> Result<Seq, Stop>> Statements<F> {
     }
 
     /// How many levels may open inside the statement.
+    #[tactic(auto, using(crate::proofs::Below::one_less))]
     fn inside(&self) -> u32
         ensures { result ≡ below self.now.levels }
     {
-        if self.levels == 0 { 0 } else { self.levels - 1 }
+        self.levels.saturating_sub(1)
     }
 
     fn expression(&self, reader: &mut Reader<'_>) -> Result<Expr, Stop>
