@@ -3,13 +3,12 @@ ghost use Rattle.parse_steps.specs.Reading.{Reads};
 ghost use Rattle.parse_steps.specs.Reply.{most_operators};
 ghost use Rattle.parse_conc.specs.Parsing as spec;
 
-use crate::tokens::begins_statement;
 use ams_token::{Mark, Place, TokenKind, Word};
 use ams_tree::{ConcurrentStatement, Expr, Name, Process, ProcessDeclaration, Seq};
 use parse_decl::{begins_process_declaration, process_declaration, word_said};
 use parse_expr::name_of;
 use parse_parts::{name, name_list};
-use parse_seq::any_statement;
+use parse_seq::{any_statement, begins_statement};
 use parse_steps::{Reader, Stop};
 use sqlite_items::Items;
 use std::alloc::Global;

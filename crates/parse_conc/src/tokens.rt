@@ -2,7 +2,6 @@
 
 ghost use Rattle.std.specs.Prelude.{◌≡◌, Ok, is_some};
 ghost use Rattle.parse_steps.specs.Reading.{Reads, from_next};
-ghost use Rattle.parse_seq.specs.Parsing.{begins_statement};
 ghost use Rattle.parse_conc.specs.Parsing as spec;
 
 use ams_token::{Mark, Token, TokenKind, Word};
@@ -48,32 +47,6 @@ pub fn begins_concurrent(next: Option<Token>) -> bool
         TokenKind::Word(Word::Assert) => true,
         TokenKind::Word(Word::Break) => true,
         _ => begins_expression(next),
-    }
-}
-
-/// Whether a sequential statement begins.
-#[tactic(auto, unfolding(parse_seq::specs::Parsing::begins_statement))]
-pub fn begins_statement(next: Option<Token>) -> bool
-    ensures { result ≡ is_some (from_next begins_statement next) }
-{
-    let Some(token) = next else {
-        return false;
-    };
-    match token.kind {
-        TokenKind::Name(_) => true,
-        TokenKind::Word(Word::If) => true,
-        TokenKind::Word(Word::Case) => true,
-        TokenKind::Word(Word::While) => true,
-        TokenKind::Word(Word::For) => true,
-        TokenKind::Word(Word::Loop) => true,
-        TokenKind::Word(Word::Exit) => true,
-        TokenKind::Word(Word::Next) => true,
-        TokenKind::Word(Word::Wait) => true,
-        TokenKind::Word(Word::Assert) => true,
-        TokenKind::Word(Word::Report) => true,
-        TokenKind::Word(Word::Break) => true,
-        TokenKind::Word(Word::Null) => true,
-        _ => false,
     }
 }
 
