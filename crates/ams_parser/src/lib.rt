@@ -3,8 +3,7 @@
 
 mod contexts;
 mod entities;
+mod files;
 mod read;
 
-pub use contexts::{library_clause, use_clause};
-pub use entities::entity;
-pub use read::{fronts_begin, one_tree};
+pub use read::{fronts_begin, one_tree, parse};
