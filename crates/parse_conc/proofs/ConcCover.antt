@@ -29,8 +29,8 @@ use Rattle.parse_decl.proofs.DeclCover.{process_declaration_first, process_decla
 use Rattle.parse_decl.specs.Parsing.{word_said}
 use Rattle.parse_decl.specs.Firsts.{begins_process_declaration}
 use Rattle.parse_decl.proofs.FirstKinds.{process_declaration_tells}
-use Rattle.parse_seq.specs.Parsing.{begins_statement, statement_in}
-use Rattle.parse_seq.proofs.SeqCover.{seq_first, statement_covers}
+use Rattle.parse_seq.specs.Parsing.{begins_statement}
+use Rattle.parse_seq.proofs.SeqCover.{seq_first, statement_tells, statement_covers}
 use Rattle.parse_conc.specs.Parsing as R
 use Rattle.parse_conc.specs.Parsing.{begins_expression, expression_in, begins_concurrent, concurrent_in, name_then}
 use Rattle.parse_conc.proofs.Waves.{Turns, loop_covers}
@@ -45,26 +45,6 @@ unfolding begins_expression
 expression_tells t = go t.kind
   where
     go : (k : TokenKind) → has expr_first (kind_class k) ≡ is_some (expression_in k)
-    go (kind.Name zero) = refl
-    go (kind.Name (suc zero)) = refl
-    go (kind.Name (suc (suc zero))) = refl
-    go (kind.Name (suc (suc (suc zero)))) = refl
-    go (kind.Name (suc (suc (suc (suc n))))) = refl
-    go (kind.Int x) = refl
-    go (kind.Real x) = refl
-    go (kind.Char x) = refl
-    go (kind.Str x) = refl
-    go (kind.Bits x) = refl
-    go (kind.Word w.Abs) = refl
-    go (kind.Word _) = refl
-    go (kind.Mark m.Comma) = refl
-    go (kind.Mark _) = refl
-
-statement_tells : Tells seq_first begins_statement
-unfolding begins_statement
-statement_tells t = go t.kind
-  where
-    go : (k : TokenKind) → has seq_first (kind_class k) ≡ is_some (statement_in k)
     go (kind.Name zero) = refl
     go (kind.Name (suc zero)) = refl
     go (kind.Name (suc (suc zero))) = refl
@@ -277,7 +257,7 @@ unfolding G.unlabelled
 unlabelled_alone l d t is = inr (inr (inr (inr (inr (inr (inl (equation_alone l d t is)))))))
 
 pub concurrent_covers : (c n l d : ℕ) → Covers (Exceeded c n l d) false conc_first conc_next (G.concurrent l d) (R.concurrent c n)
-unfolding G.concurrent R.concurrent R.labelled
+unfolding G.concurrent R.concurrent R.labelled R.labelled_statement
 concurrent_covers c n l d = fits conc_first conc_next (named_or (Exceeded c n l d) m.Colon
     (λ name. ends _ (or_ (word w.Entity) (class_tells (W w.Entity)) (instance c n l d) (unlabelled c n l d) refl))
     (fits conc_first conc_next (ends _ (unlabelled c n l d)) refl refl refl)

@@ -180,5 +180,5 @@ module _ (c n l d : ℕ) (le1 : c ≤ l) (le2 : n ≤ d) where
       assignment_or_equation))))
 
   pub concurrent_sound : Sound (More c n l d) (G.concurrent l d) (R.concurrent c n)
-  unfolding G.concurrent R.concurrent R.labelled
+  unfolding G.concurrent R.concurrent R.labelled R.labelled_statement
   concurrent_sound = choose_sound _ _ _ _ _ _ (then_ (free _ _) (λ name. then_ (free _ _) (λ _. ends _ (or_ (word w.Entity) (instance c n l d le1 le2) unlabelled)))) (ends _ unlabelled)

@@ -3,3 +3,4 @@ pub mod Choice
 pub mod Ahead
 pub mod ConcSound
 pub mod ConcCover
+pub mod Called

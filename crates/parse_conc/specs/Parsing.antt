@@ -199,6 +199,10 @@ module _ (limit n : ℕ) where
     ending w.Case
     pure (conc.Case place x all)
 
+-- [ id ]
+unfoldable pub maybe_name : Parser (Option Name)
+maybe_name = optional (at name_of) (one name_of)
+
 unfoldable pub sensitivity : ℕ → ℕ → Parser (List Expr)
 sensitivity limit n = do
   terminal (allows n) 0 (mark m.LeftParen)
@@ -230,10 +234,6 @@ module _ (limit n : ℕ) where
 
   unfoldable pub statements : Parser (List Seq)
   statements = repeated (at begins_statement) last (statement limit n) []
-
-  -- [ id ]
-  unfoldable pub maybe_name : Parser (Option Name)
-  maybe_name = optional (at name_of) (one name_of)
 
   unfoldable pub process_body : Parser (List Seq × Option Name)
   process_body = do
@@ -300,12 +300,15 @@ module _ (limit n : ℕ) where
       (choose (at (word w.Break)) (concurrent_break limit n)
       assignment_or_equation))))
 
+  unfoldable pub labelled_statement : Parser ConcurrentStatement
+  labelled_statement = choose (at (word w.Entity)) instance unlabelled
+
   -- id ":" ( instance | statement )
   unfoldable pub labelled : Parser Concurrent
   labelled = do
     name ← one name_of
     one (mark m.Colon)
-    x ← choose (at (word w.Entity)) instance unlabelled
+    x ← labelled_statement
     pure (record { label = Some name; statement = x })
 
   unfoldable pub concurrent : Parser Concurrent

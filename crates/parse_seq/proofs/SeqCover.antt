@@ -61,7 +61,7 @@ simple_tells t = go t.kind
     go (kind.Mark m.Comma) = refl
     go (kind.Mark _) = refl
 
-statement_tells : Tells seq_first begins_statement
+pub statement_tells : Tells seq_first begins_statement
 unfolding begins_statement
 statement_tells t = go t.kind
   where

@@ -1,4 +1,4 @@
-//! Whether a token begins a statement.
+//! Which tokens begin a statement.
 
 ghost use Rattle.std.specs.Prelude.{◌≡◌, is_some};
 ghost use Rattle.parse_steps.specs.Reading.{from_next};
@@ -6,7 +6,7 @@ ghost use Rattle.parse_seq.specs.Parsing as spec;
 
 use ams_token::{Token, TokenKind, Word};
 
-/// Whether it begins a statement in which no other one stands.
+/// Whether a token begins a statement in which no other one stands.
 #[tactic(auto, unfolding(crate::specs::Parsing::begins_simple))]
 pub fn begins_simple(next: Option<Token>) -> bool
     ensures { result ≡ is_some (from_next spec.begins_simple next) }
@@ -27,6 +27,7 @@ pub fn begins_simple(next: Option<Token>) -> bool
     }
 }
 
+/// Whether a token begins a statement.
 #[tactic(auto, unfolding(crate::specs::Parsing::begins_statement, crate::specs::Parsing::begins_simple))]
 pub fn begins_statement(next: Option<Token>) -> bool
     ensures { result ≡ is_some (from_next spec.begins_statement next) }
