@@ -5,7 +5,7 @@ use Rattle.ams_token.specs.declared.token.TokenKind.{TokenKind}
 use Rattle.expr_spell.specs.Kinds.{joined, behind}
 
 module _ {X : Type 0} (s : X → List TokenKind) where
-  joined_last : (ys : List X) (x : X) → joined (map s (ys ++ x ∷ [])) ≡ joined (map s ys) ++ s x
+  pub joined_last : (ys : List X) (x : X) → joined (map s (ys ++ x ∷ [])) ≡ joined (map s ys) ++ s x
   joined_last [] x = append-nil (s x)
   joined_last (y ∷ ys) x = ap (λ v. s y ++ v) (joined_last ys x) ∙ sym (append_assoc (s y) (joined (map s ys)) (s x))
 

@@ -92,7 +92,7 @@ all_items s L h (x ∷ xs) ts n p =
     ∙ (ap (λ v. kinds p.front ++ v) (all_items s L h xs p.back p.back_count p.spells_back)
     ∙ (sym (kinds-append p.front p.back) ∙ ap kinds (sym p.tokens)))
 
-fold_last : {X : Type 0} (ys xs : List X) → fold last ys xs ≡ ys ++ xs
+pub fold_last : {X : Type 0} (ys xs : List X) → fold last ys xs ≡ ys ++ xs
 fold_last ys [] = sym (append-nil ys)
 fold_last ys (x ∷ xs) = fold_last (ys ++ x ∷ []) xs ∙ append_assoc ys (x ∷ []) xs
 

@@ -13,6 +13,7 @@ pub fn number_kind(value: NumberValue) -> TokenKind
     }
 }
 
+/// The kind of a literal.
 pub fn literal_kind(value: LiteralValue) -> TokenKind
     ensures { result ≡ spec.literal_kind value }
 {

@@ -4,7 +4,8 @@
 mod kinds;
 mod spell;
 
-pub use spell::{put_expr, spell_expr};
+pub use kinds::literal_kind;
+pub use spell::{put_expr, put_mark, put_name, spell_expr};
 
 #[cfg(test)]
 mod tests;

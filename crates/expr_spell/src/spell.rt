@@ -25,13 +25,13 @@ pub fn spell_expr(alloc: Global, expr: &Expr) -> Result<Items<TokenKind>, AllocE
     Ok(out)
 }
 
-fn put_name(out: &mut Items<TokenKind>, name: &Name) -> Result<(), AllocError>
+pub fn put_name(out: &mut Items<TokenKind>, name: &Name) -> Result<(), AllocError>
     ensures { OnOk result (out.new ≡ out.old ++ name_kinds name.now) }
 {
     out.push(TokenKind::Name(name.number))
 }
 
-fn put_mark(out: &mut Items<TokenKind>, mark: Mark) -> Result<(), AllocError>
+pub fn put_mark(out: &mut Items<TokenKind>, mark: Mark) -> Result<(), AllocError>
     ensures { OnOk result (out.new ≡ out.old ++ kind.Mark mark ∷ []) }
 {
     out.push(TokenKind::Mark(mark))

@@ -1,0 +1,6 @@
+use Rattle.std.proofs.Common.{◌≡◌, ◌++◌, map, take}
+use Rattle.expr_spell.specs.Kinds.{behind}
+use Rattle.ams_spell.proofs.parts.put_separated.Given as goal
+
+abbrev pub invariant-loop-item : goal.invariant-loop-item
+invariant-loop-item g l = l.out ≡ l.initial.out ++ behind l.separator (map g.T.Spell.kinds (take l.item-index l.more))
