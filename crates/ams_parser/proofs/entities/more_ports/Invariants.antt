@@ -1,0 +1,8 @@
+use Rattle.std.proofs.Common.{◌≡◌, ◌-◌}
+use Rattle.parse_steps.specs.Reply.{most_operators}
+use Rattle.ams_parser.specs.Parsing.{more_ports, port_turns}
+use Rattle.ams_parser.proofs.entities.more_ports.Given as goal
+
+-- what the turns that are left make of the list so far is the whole
+abbrev pub invariant-loop-turn : goal.invariant-loop-turn
+invariant-loop-turn l = more_ports most_operators l.fn.levels l.fn.first l.fn.reader ≡ port_turns most_operators l.fn.levels (l._turn-end - l._turn) l.all l.reader

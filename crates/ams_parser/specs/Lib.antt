@@ -1,0 +1,3 @@
+pub mod Parsing
+pub mod Files
+pub mod Whole

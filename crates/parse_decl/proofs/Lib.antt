@@ -1,0 +1,4 @@
+pub mod DeclCover
+pub mod DeclSound
+pub mod FirstKinds
+pub mod Called

@@ -1,0 +1,66 @@
+ghost use Rattle.std.specs.Prelude.{◌≡◌, ◌≤◌, ◌-◌, ◌++◌, ℕ, List, length, drop};
+ghost use Rattle.ams_token.specs.declared.token.Token.{Token};
+ghost use Rattle.ams_tree.specs.declared.declaration.Declaration.{Declaration};
+ghost use Rattle.ams_tree.specs.Declarations as grammar;
+ghost use Rattle.ams_tree.specs.Answer.{Spells, SpellsWithin, Begins, BeginsWithin};
+ghost use Rattle.parse_steps.specs.Reply.{Answers, IsTree, most_operators};
+
+use crate::declarations;
+use ams_token::{Token, Tokens};
+use ams_tree::Declaration;
+use parse_steps::{ParseFault, Reader, fault_at};
+use std::alloc::Global;
+
+/// How many levels may be open.
+pub const MOST_LEVELS: u32 = 64;
+
+/// How many operators, calls and attributes an outermost expression may have.
+pub const MOST_OPERATORS: u32 = 256;
+
+/// Reads the declaration that begins at a place, as far as the tokens go on with one, where `depth` levels are open.
+/// Answers the tree with the place behind it.
+pub fn declaration(
+    alloc: Global,
+    tokens: &Tokens,
+    at: usize,
+    depth: u32,
+) -> Result<(Declaration, usize), ParseFault>
+    requires place { at ≤ length tokens.now.list.items }
+    requires open { depth ≤ 64 }
+    // The longest front that begins a declaration is one, or the first place where none goes on or a limit is passed.
+    ensures answer { Answers grammar.declaration (64 - depth) tokens.now.list.items at result }
+    // What a tree within the limits spells is read as that tree.
+    ensures back { (tree : Declaration) → SpellsWithin grammar.declaration (64 - depth) most_operators tree (drop at tokens.now.list.items) → IsTree tree (length tokens.now.list.items) result }
+{
+    read(alloc, tokens.list.as_slice(), at, MOST_LEVELS - depth)
+}
+
+fn read(
+    alloc: Global,
+    tokens: &[Token],
+    at: usize,
+    levels: u32,
+) -> Result<(Declaration, usize), ParseFault>
+    requires { at ≤ length tokens.now }
+    ensures answer { Answers grammar.declaration levels tokens.now at result }
+    ensures back { (tree : Declaration) → SpellsWithin grammar.declaration levels most_operators tree (drop at tokens.now) → IsTree tree (length tokens.now) result }
+{
+    let mut reader = Reader::new(&tokens[at..], MOST_OPERATORS);
+    match declarations::any_declaration(alloc, &mut reader, levels) {
+        Ok(tree) => Ok((tree, tokens.len() - reader.left())),
+        Err(stop) => Err(fault_at(stop, tokens.len())),
+    }
+}
+
+/// Two trees that the same tokens spell are equal.
+pub fn one_tree()
+    ensures { (x y : Declaration) (tokens : List Token) → Spells grammar.declaration x tokens → Spells grammar.declaration y tokens → x ≡ y }
+{}
+
+/// Each front of what begins a declaration begins one, within the same limits: so the first place past a limit is the
+/// least one.
+pub fn fronts_begin()
+    ensures begins { (front back : List Token) → Begins grammar.declaration (front ++ back) → Begins grammar.declaration front }
+    ensures within { (levels operators : ℕ) (front back : List Token) → BeginsWithin grammar.declaration levels operators (front ++ back) → BeginsWithin grammar.declaration levels operators front }
+    ensures spelled { (x : Declaration) (tokens : List Token) → Spells grammar.declaration x tokens → Begins grammar.declaration tokens }
+{}
