@@ -1,13 +1,13 @@
 #!/bin/sh
 # Hands hostile texts of 1 MiB to the lexer and the parser: hostile.sh
 #
-# Each line has the text, the work, whether it was answered within 10 seconds on a stack of 256 KiB, and the milliseconds.
+# Each line has the text, the work, whether it was answered within 10 seconds on a stack of 1 MiB, and the milliseconds.
 # Build the program first: (cd crates/bench_layers && rt run -- mul-small 1)
 own=$(dirname "$0")/../crates/bench_layers/out/bench_layers
 text=$(mktemp)
 trap 'rm -f "$text"' EXIT
 size=1048576
-ulimit -s 256
+ulimit -s 1024
 
 repeat() { # PIECE: as many pieces as fill 1 MiB
     awk -v piece="$1" -v size="$size" 'BEGIN { while (n < size) { printf "%s", piece; n += length(piece) } }'

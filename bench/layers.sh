@@ -61,6 +61,6 @@ for line in mul-small:10000000 mul-large:10000000 div-small:10000000 div-large:1
 done
 design >"$text"
 bytes=$(wc -c <"$text")
-for work in lex; do
+for work in lex parse; do
     compare "$work" 20 $((20 * bytes)) "$text"
 done

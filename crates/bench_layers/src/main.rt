@@ -10,7 +10,7 @@ use std::{fs, io};
 use texts::TextWork;
 use work::Work;
 
-const USAGE: &str = "usage: bench_layers WORK COUNT, or bench_layers lex COUNT FILE";
+const USAGE: &str = "usage: bench_layers WORK COUNT, or bench_layers lex|parse COUNT FILE";
 
 fn main(rt: HostRuntime) -> io::Result<()> {
     let mut words = std::env::args(&rt)?.skip(1);

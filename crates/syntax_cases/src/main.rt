@@ -1,5 +1,9 @@
 //! Reads texts, one a line, and prints what the parser of their kind answers to their tokens.
+//!
+//! A row is `expression AT DEPTH TEXT` or `file TEXT`, where a backslash stands for a line feed.
 #![tactic(auto)]
+
+mod files;
 
 use ams_lexer::lex;
 use parse_expr::expression;
@@ -28,6 +32,7 @@ fn read(alloc: Global, line: &str) -> Option<Result<usize, ParseFault>> {
     let (kind, row) = line.split_once(' ')?;
     match kind {
         "expression" => read_expression(alloc, row),
+        "file" => files::read_file(alloc, row),
         _ => None,
     }
 }
