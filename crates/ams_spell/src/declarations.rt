@@ -93,30 +93,42 @@ fn put_declared(out: &mut Items<TokenKind>, ids: &Items<Name>) -> Result<(), All
     put_mark(out, Mark::Colon)
 }
 
-// a type, a default and a semicolon
-fn put_object(
+// a declaration of objects that may have a value
+fn put_objects(
     out: &mut Items<TokenKind>,
+    class: Word,
+    ids: &Items<Name>,
     indication: &SubtypeIndication,
     value: &Option<Expr>,
 ) -> Result<(), AllocError>
-    ensures { OnOk result (out.new ≡ out.old ++ (spec.indication_kinds indication.now ⊕ optional spec.default_kinds value.now ⊕ mark m.Semicolon)) }
+    ensures { OnOk result (out.new ≡ out.old ++ (word class ⊕ names ids.now ⊕ mark m.Colon ⊕ spec.indication_kinds indication.now ⊕ optional spec.default_kinds value.now ⊕ mark m.Semicolon)) }
 {
+    put_word(out, class)?;
+    put_declared(out, ids)?;
     indication.spell(out)?;
     put_default(out, value)?;
     put_mark(out, Mark::Semicolon)
 }
 
-// a type, a value and a semicolon
-fn put_constant(
+fn put_value(out: &mut Items<TokenKind>, value: &Expr) -> Result<(), AllocError>
+    ensures { OnOk result (out.new ≡ out.old ++ (mark m.Assign ⊕ spelling value.now)) }
+{
+    put_mark(out, Mark::Assign)?;
+    value.spell(out)
+}
+
+fn put_constants(
     out: &mut Items<TokenKind>,
+    ids: &Items<Name>,
     indication: &SubtypeIndication,
     value: &Expr,
 ) -> Result<(), AllocError>
-    ensures { OnOk result (out.new ≡ out.old ++ (spec.indication_kinds indication.now ⊕ mark m.Assign ⊕ spelling value.now ⊕ mark m.Semicolon)) }
+    ensures { OnOk result (out.new ≡ out.old ++ (word w.Constant ⊕ names ids.now ⊕ mark m.Colon ⊕ spec.indication_kinds indication.now ⊕ mark m.Assign ⊕ spelling value.now ⊕ mark m.Semicolon)) }
 {
+    put_word(out, Word::Constant)?;
+    put_declared(out, ids)?;
     indication.spell(out)?;
-    put_mark(out, Mark::Assign)?;
-    value.spell(out)?;
+    put_value(out, value)?;
     put_mark(out, Mark::Semicolon)
 }
 
@@ -201,15 +213,6 @@ fn put_nature(
     put_mark(out, Mark::Semicolon)
 }
 
-fn put_enumeration(out: &mut Items<TokenKind>, literals: &Items<Name>) -> Result<(), AllocError>
-    ensures { OnOk result (out.new ≡ out.old ++ (mark m.LeftParen ⊕ names literals.now ⊕ mark m.RightParen ⊕ mark m.Semicolon)) }
-{
-    put_mark(out, Mark::LeftParen)?;
-    put_names(out, literals)?;
-    put_mark(out, Mark::RightParen)?;
-    put_mark(out, Mark::Semicolon)
-}
-
 /// A word, the name behind it, and "is".
 pub fn put_head(out: &mut Items<TokenKind>, before: Word, id: &Name) -> Result<(), AllocError>
     ensures { OnOk result (out.new ≡ out.old ++ (word before ⊕ name id.now ⊕ word w.Is)) }
@@ -218,20 +221,43 @@ pub fn put_head(out: &mut Items<TokenKind>, before: Word, id: &Name) -> Result<(
     put_word(out, Word::Is)
 }
 
+fn put_enumeration(
+    out: &mut Items<TokenKind>,
+    id: &Name,
+    literals: &Items<Name>,
+) -> Result<(), AllocError>
+    ensures { OnOk result (out.new ≡ out.old ++ (word w.Type ⊕ name id.now ⊕ word w.Is ⊕ mark m.LeftParen ⊕ names literals.now ⊕ mark m.RightParen ⊕ mark m.Semicolon)) }
+{
+    put_head(out, Word::Type, id)?;
+    put_mark(out, Mark::LeftParen)?;
+    put_names(out, literals)?;
+    put_mark(out, Mark::RightParen)?;
+    put_mark(out, Mark::Semicolon)
+}
+
+// quantities of a branch, and the word behind them
+fn put_quantities(
+    out: &mut Items<TokenKind>,
+    ids: &Items<Name>,
+    class: Word,
+) -> Result<(), AllocError>
+    ensures { OnOk result (out.new ≡ out.old ++ (word w.Quantity ⊕ names ids.now ⊕ word class)) }
+{
+    put_word(out, Word::Quantity)?;
+    put_names(out, ids)?;
+    put_word(out, class)
+}
+
 impl Spell for Declaration {
     ghost kinds = { spec.declaration_kinds };
 
     fn spell(&self, out: &mut Items<TokenKind>) -> Result<(), AllocError> {
         match self {
             Declaration::Signal(_, ids, indication, value) => {
-                put_word(out, Word::Signal)?;
-                put_declared(out, ids)?;
-                put_object(out, indication, value)
+                put_objects(out, Word::Signal, ids, indication, value)
             }
             Declaration::Constant(_, ids, indication, value) => {
-                put_word(out, Word::Constant)?;
-                put_declared(out, ids)?;
-                put_constant(out, indication, value)
+                put_constants(out, ids, indication, value)
             }
             Declaration::Terminal(_, ids, nature) => {
                 put_word(out, Word::Terminal)?;
@@ -240,31 +266,22 @@ impl Spell for Declaration {
                 put_mark(out, Mark::Semicolon)
             }
             Declaration::Quantity(_, ids, indication, value) => {
-                put_word(out, Word::Quantity)?;
-                put_declared(out, ids)?;
-                put_object(out, indication, value)
+                put_objects(out, Word::Quantity, ids, indication, value)
             }
             Declaration::Across(_, across, through, from, to) => {
-                put_word(out, Word::Quantity)?;
-                put_names(out, across)?;
-                put_word(out, Word::Across)?;
+                put_quantities(out, across, Word::Across)?;
                 put_through(out, through)?;
                 put_ends(out, from, to)
             }
             Declaration::Through(_, ids, from, to) => {
-                put_word(out, Word::Quantity)?;
-                put_names(out, ids)?;
-                put_word(out, Word::Through)?;
+                put_quantities(out, ids, Word::Through)?;
                 put_ends(out, from, to)
             }
             Declaration::Nature(_, id, across, through, reference) => {
                 put_head(out, Word::Nature, id)?;
                 put_nature(out, across, through, reference)
             }
-            Declaration::Enumeration(_, id, literals) => {
-                put_head(out, Word::Type, id)?;
-                put_enumeration(out, literals)
-            }
+            Declaration::Enumeration(_, id, literals) => put_enumeration(out, id, literals),
             Declaration::Subtype(_, id, indication) => {
                 put_head(out, Word::Subtype, id)?;
                 indication.spell(out)?;
@@ -280,14 +297,10 @@ impl Spell for ProcessDeclaration {
     fn spell(&self, out: &mut Items<TokenKind>) -> Result<(), AllocError> {
         match self {
             ProcessDeclaration::Variable(_, ids, indication, value) => {
-                put_word(out, Word::Variable)?;
-                put_declared(out, ids)?;
-                put_object(out, indication, value)
+                put_objects(out, Word::Variable, ids, indication, value)
             }
             ProcessDeclaration::Constant(_, ids, indication, value) => {
-                put_word(out, Word::Constant)?;
-                put_declared(out, ids)?;
-                put_constant(out, indication, value)
+                put_constants(out, ids, indication, value)
             }
         }
     }

@@ -4,11 +4,14 @@ ghost use Rattle.std.specs.Prelude.{◌≡◌, ◌++◌, OnOk, map};
 ghost use Rattle.ams_token.specs.declared.token.TokenKind.TheVariants as kind;
 ghost use Rattle.ams_token.specs.declared.word.Word.TheVariants as w;
 ghost use Rattle.expr_spell.specs.Kinds.{joined, separated};
+ghost use Rattle.ams_spell.specs.Parts.{◌⊕◌, word};
 ghost use Rattle.ams_spell.specs.Statements as spec;
 
-use crate::parts::{Spell, put_behind, put_ending, put_mark, put_optional, put_word};
-use crate::statements::{put_break, put_choices, put_on, put_waveform, put_when};
-use ams_token::{Mark, TokenKind, Word};
+use crate::parts::{Spell, put_ending, put_word};
+use crate::statements::{
+    put_break_statement, put_choices, put_jump, put_null, put_signal, put_variable, put_wait,
+};
+use ams_token::{TokenKind, Word};
 use ams_tree::{Alternative, Branch, Seq};
 use sqlite_items::Items;
 use std::alloc::AllocError;
@@ -26,26 +29,13 @@ fn put_statement(out: &mut Items<TokenKind>, statement: &Seq) -> Result<(), Allo
     ensures { OnOk result (out.new ≡ out.old ++ spec.statement_kinds statement.now) }
 {
     match statement {
-        Seq::Signal(target, delay, wave) => {
-            target.spell(out)?;
-            put_mark(out, Mark::LessEqual)?;
-            put_optional(out, delay)?;
-            put_waveform(out, wave)?;
-            put_mark(out, Mark::Semicolon)
-        }
-        Seq::Variable(target, value) => {
-            target.spell(out)?;
-            put_mark(out, Mark::Assign)?;
-            value.spell(out)?;
-            put_mark(out, Mark::Semicolon)
-        }
+        Seq::Signal(target, delay, wave) => put_signal(out, target, delay, wave),
+        Seq::Variable(target, value) => put_variable(out, target, value),
         Seq::If(_, branches, None) => {
-            put_word(out, Word::If)?;
             put_branches(out, branches.as_slice())?;
             put_ending(out, Word::If)
         }
         Seq::If(_, branches, Some(body)) => {
-            put_word(out, Word::If)?;
             put_branches(out, branches.as_slice())?;
             put_word(out, Word::Else)?;
             put_body(out, body.as_slice())?;
@@ -64,35 +54,13 @@ fn put_statement(out: &mut Items<TokenKind>, statement: &Seq) -> Result<(), Allo
             put_body(out, body.as_slice())?;
             put_ending(out, Word::Loop)
         }
-        Seq::Exit(_, condition) => {
-            put_word(out, Word::Exit)?;
-            put_when(out, condition)?;
-            put_mark(out, Mark::Semicolon)
-        }
-        Seq::Next(_, condition) => {
-            put_word(out, Word::Next)?;
-            put_when(out, condition)?;
-            put_mark(out, Mark::Semicolon)
-        }
-        Seq::Wait(_, on, until, time) => {
-            put_word(out, Word::Wait)?;
-            put_on(out, on)?;
-            put_behind(out, TokenKind::Word(Word::Until), until)?;
-            put_behind(out, TokenKind::Word(Word::For), time)?;
-            put_mark(out, Mark::Semicolon)
-        }
+        Seq::Exit(_, condition) => put_jump(out, Word::Exit, condition),
+        Seq::Next(_, condition) => put_jump(out, Word::Next, condition),
+        Seq::Wait(_, on, until, time) => put_wait(out, on, until, time),
         Seq::Assert(assertion) => assertion.spell(out),
         Seq::Report(_, report) => report.spell(out),
-        Seq::Break(_, elements, condition) => {
-            put_word(out, Word::Break)?;
-            put_break(out, elements)?;
-            put_when(out, condition)?;
-            put_mark(out, Mark::Semicolon)
-        }
-        Seq::Null(_) => {
-            put_word(out, Word::Null)?;
-            put_mark(out, Mark::Semicolon)
-        }
+        Seq::Break(_, elements, condition) => put_break_statement(out, elements, condition),
+        Seq::Null(_) => put_null(out),
     }
 }
 
@@ -117,8 +85,9 @@ fn put_branch(out: &mut Items<TokenKind>, branch: &Branch) -> Result<(), AllocEr
 
 #[cycle(statements)]
 fn put_branches(out: &mut Items<TokenKind>, branches: &[Branch]) -> Result<(), AllocError>
-    ensures { OnOk result (out.new ≡ out.old ++ separated (kind.Word w.Elsif) (map spec.branch_kinds branches.now)) }
+    ensures { OnOk result (out.new ≡ out.old ++ (word w.If ⊕ separated (kind.Word w.Elsif) (map spec.branch_kinds branches.now))) }
 {
+    put_word(out, Word::If)?;
     let [first, more @ ..] = branches else {
         return Ok(());
     };

@@ -1,13 +1,16 @@
 ghost use Rattle.std.specs.Prelude.{◌≡◌, ◌++◌, OnOk};
 ghost use Rattle.ams_token.specs.declared.word.Word.TheVariants as w;
-ghost use Rattle.expr_spell.specs.Kinds.{optional};
+ghost use Rattle.ams_token.specs.declared.mark.Mark.TheVariants as m;
+ghost use Rattle.expr_spell.specs.Kinds.{optional, name};
 ghost use Rattle.expr_spell.specs.Spelling.{spelling};
-ghost use Rattle.ams_spell.specs.Parts.{◌⊕◌, word};
+ghost use Rattle.ams_spell.specs.Parts.{◌⊕◌, mark, word};
 ghost use Rattle.ams_spell.specs.Statements as spec;
 
-use crate::parts::{Spell, put_behind, put_mark, put_separated, put_word};
+use crate::parts::{Spell, put_behind, put_mark, put_optional, put_separated, put_word};
 use ams_token::{Mark, TokenKind, Word};
-use ams_tree::{Assertion, BreakElement, Choice, Delay, Expr, Iteration, Report, WaveformElement};
+use ams_tree::{
+    Assertion, BreakElement, Choice, Delay, Expr, Iteration, Name, Report, WaveformElement,
+};
 use sqlite_items::Items;
 use std::alloc::AllocError;
 
@@ -161,4 +164,80 @@ pub fn put_when(out: &mut Items<TokenKind>, condition: &Option<Expr>) -> Result<
     ensures { OnOk result (out.new ≡ out.old ++ optional spec.when_kinds condition.now) }
 {
     put_behind(out, TokenKind::Word(Word::When), condition)
+}
+
+pub fn put_signal(
+    out: &mut Items<TokenKind>,
+    target: &Name,
+    delay: &Option<Delay>,
+    wave: &Items<WaveformElement>,
+) -> Result<(), AllocError>
+    ensures { OnOk result (out.new ≡ out.old ++ (name target.now ⊕ mark m.LessEqual ⊕ optional spec.delay_kinds delay.now ⊕ spec.waveform_kinds wave.now ⊕ mark m.Semicolon)) }
+{
+    target.spell(out)?;
+    put_mark(out, Mark::LessEqual)?;
+    put_optional(out, delay)?;
+    put_waveform(out, wave)?;
+    put_mark(out, Mark::Semicolon)
+}
+
+pub fn put_variable(
+    out: &mut Items<TokenKind>,
+    target: &Name,
+    value: &Expr,
+) -> Result<(), AllocError>
+    ensures { OnOk result (out.new ≡ out.old ++ (name target.now ⊕ mark m.Assign ⊕ spelling value.now ⊕ mark m.Semicolon)) }
+{
+    target.spell(out)?;
+    put_mark(out, Mark::Assign)?;
+    value.spell(out)?;
+    put_mark(out, Mark::Semicolon)
+}
+
+/// `exit` or `next`.
+pub fn put_jump(
+    out: &mut Items<TokenKind>,
+    jump: Word,
+    condition: &Option<Expr>,
+) -> Result<(), AllocError>
+    ensures { OnOk result (out.new ≡ out.old ++ (word jump ⊕ optional spec.when_kinds condition.now ⊕ mark m.Semicolon)) }
+{
+    put_word(out, jump)?;
+    put_when(out, condition)?;
+    put_mark(out, Mark::Semicolon)
+}
+
+pub fn put_wait(
+    out: &mut Items<TokenKind>,
+    on: &Items<Expr>,
+    until: &Option<Expr>,
+    time: &Option<Expr>,
+) -> Result<(), AllocError>
+    ensures { OnOk result (out.new ≡ out.old ++ (word w.Wait ⊕ spec.on_kinds on.now ⊕ optional (λ x. word w.Until ⊕ spelling x) until.now ⊕ optional (λ x. word w.For ⊕ spelling x) time.now ⊕ mark m.Semicolon)) }
+{
+    put_word(out, Word::Wait)?;
+    put_on(out, on)?;
+    put_behind(out, TokenKind::Word(Word::Until), until)?;
+    put_behind(out, TokenKind::Word(Word::For), time)?;
+    put_mark(out, Mark::Semicolon)
+}
+
+pub fn put_break_statement(
+    out: &mut Items<TokenKind>,
+    elements: &Items<BreakElement>,
+    condition: &Option<Expr>,
+) -> Result<(), AllocError>
+    ensures { OnOk result (out.new ≡ out.old ++ (word w.Break ⊕ spec.break_kinds elements.now ⊕ optional spec.when_kinds condition.now ⊕ mark m.Semicolon)) }
+{
+    put_word(out, Word::Break)?;
+    put_break(out, elements)?;
+    put_when(out, condition)?;
+    put_mark(out, Mark::Semicolon)
+}
+
+pub fn put_null(out: &mut Items<TokenKind>) -> Result<(), AllocError>
+    ensures { OnOk result (out.new ≡ out.old ++ (word w.Null ⊕ mark m.Semicolon)) }
+{
+    put_word(out, Word::Null)?;
+    put_mark(out, Mark::Semicolon)
 }

@@ -7,7 +7,7 @@ put_body-loop-statement-preserved t c = joined_more spec.statement_kinds _ _ _ c
 
 pub put_branches-loop-branch-preserved : goal.put_branches-loop-branch-preserved
 put_branches-loop-branch-preserved t c =
-    behind_more spec.branch_kinds _ _ _ c.loop-branch-test.true c.branch-item.is _ _ _ _ _ c.loop-branch.invariant c.in_ok-put_word.ensures c.in_ok-put_branch-2.ensures
+    behind_more spec.branch_kinds _ _ _ c.loop-branch-test.true c.branch-item.is _ _ _ _ _ c.loop-branch.invariant c.in_ok-put_word-2.ensures c.in_ok-put_branch-2.ensures
 
 pub put_alternatives-loop-alternative-preserved : goal.put_alternatives-loop-alternative-preserved
 put_alternatives-loop-alternative-preserved t c =
