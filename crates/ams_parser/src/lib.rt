@@ -7,3 +7,6 @@ mod files;
 mod read;
 
 pub use read::{fronts_begin, one_tree, parse};
+
+#[cfg(test)]
+mod tests;
