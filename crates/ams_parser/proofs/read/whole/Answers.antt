@@ -1,4 +1,4 @@
-use Rattle.std.proofs.Common.{Err, length, sym, subst}
+use Rattle.std.proofs.Common.{Err, sym, subst}
 use Rattle.ams_tree.specs.Designs as grammar
 use Rattle.parse_steps.specs.Reply.{most_operators}
 use Rattle.ams_parser.specs.Files as R
