@@ -179,6 +179,7 @@ const TABLE: &[u8] = b"1__0\x1dfault 11 1 1\x1e\
     \"\"\"\"\x1dstr \" 1 1; end 1 5\x1e\
     \"\"\"\x1dfault 12 1 1\x1e\
     \"a\x1dfault 12 1 1\x1e\
+    \"ab\x1dfault 12 1 1\x1e\
     \"a\nb\"\x1dfault 12 1 1\x1e\
     \"a\r\"\x1dstr a\r 1 1; end 1 5\x1e\
     \"\xe9\"\x1dfault 13 1 2\x1e\
@@ -585,6 +586,6 @@ fn gives_the_answers_of_the_table(rt: HostRuntime) -> Result<(), Fail> {
         assert!(rt; found.as_bytes() == expected, "{text:?}: {found}");
         rows = rows.wrapping_add(1);
     }
-    assert_eq!(rt; rows, 468);
+    assert_eq!(rt; rows, 469);
     Ok(())
 }
