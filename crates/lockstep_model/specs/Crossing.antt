@@ -1,5 +1,5 @@
 -- Where a threshold is crossed (own).
-use Rattle.std.specs.Prelude.{Bool, true, false, not, ◌||◌, ℕ, zero, suc, ◌+◌, ◌-◌, ◌/◌, nat_le, if◌then◌else◌, ℤ, pos, int_lt, List, [], ◌∷◌, slice_index_or, Result, Ok, Err}
+use Rattle.std.specs.Prelude.{Bool, true, false, not, ◌||◌, ℕ, zero, suc, ◌+◌, ◌-◌, ◌/◌, nat_le, if◌then◌else◌, ℤ, List, [], ◌∷◌, Result, Ok, Err}
 use Rattle.step_data.specs.declared.breaks.ThresholdState.{ThresholdState}
 use Rattle.step_data.specs.declared.outcome.Cause.{Cause}
 use Rattle.ams_value.specs.Values.{same_truth}
