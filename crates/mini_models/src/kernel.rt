@@ -36,7 +36,7 @@ impl<D: Design> Model for Switch<D> {
 
     ghost view = { λ a. record { stage = a.stage; digital = digital_of a.time a.timed a.value a.pending } };
 
-    ghost invariant = { λ a. IsSound (D.system 0) a.plan a.stage a.time a.pending a.elements a.thresholds };
+    ghost invariant = { λ a. IsSound (D.system 0) a.plan a.stage a.time a.value a.pending a.elements a.thresholds };
 }
 
 impl Plan {

@@ -169,6 +169,7 @@ pub trait Kernel<D: Design> {
     fn frame(&self, out: &mut Frame)
         requires { length out.old ≡ (D.system 0).frame_len }
         ensures value { (state self.now).stage ≡ Going → out.new ≡ (D.system 0).frame (state self.now).digital }
+        ensures first { (state self.now).stage ≡ Unstarted → out.new ≡ (D.system 0).frame (D.system 0).unstarted }
         ensures fits { IsTrue ((D.system 0).is_frame out.new) }
         ensures length { length out.new ≡ (D.system 0).frame_len };
 
