@@ -282,3 +282,41 @@ may_begin Broken = 0
 pub record Begins (w : Walk) (reply : Reply) (m : Move) : Type 0 where
   pub least : renewals_in w.works ≤ begins_said m.says + renewals_in m.walk.works
   pub most : begins_said m.says + renewals_in m.walk.works + may_begin m.walk.awaited ≤ renewals_in w.works + may_begin w.awaited + nothing reply
+
+-- how many looks a move asks for
+abbrev pub looks_asked : Ask → ℕ
+looks_asked asks.None = 0
+looks_asked asks.Begin = 0
+looks_asked (asks.Look until) = 1
+looks_asked asks.Consume = 0
+
+abbrev pub looks_said : Moved → ℕ
+looks_said (says.Ended e) = 0
+looks_said (says.Ask ask) = looks_asked ask
+
+abbrev pub rest_of : List Work → List Work
+rest_of [] = []
+rest_of (w ∷ works) = works
+
+-- how many attempts are still to be looked for
+abbrev pub unlooked_by : Awaited → List Work → ℕ
+unlooked_by Ready works = attempts_in works
+unlooked_by Looking works = attempts_in (rest_of works)
+unlooked_by (Settling own next) works = attempts_in works
+unlooked_by Broken works = attempts_in works
+
+abbrev pub unlooked : Walk → ℕ
+unlooked w = unlooked_by w.awaited w.works
+
+-- a look asks for one of them
+abbrev pub Looks : Walk → Move → Type 0
+Looks w m = looks_said m.says + unlooked m.walk ≡ unlooked w
+
+-- the walk behind some moves, and how many looks they asked for
+abbrev pub walk_after : List Reply → Walk → Walk
+walk_after [] w = w
+walk_after (reply ∷ replies) w = walk_after replies (moved w reply).walk
+
+abbrev pub looks_over : List Reply → Walk → ℕ
+looks_over [] w = 0
+looks_over (reply ∷ replies) w = looks_said (moved w reply).says + looks_over replies (moved w reply).walk
