@@ -82,6 +82,7 @@ impl<D: Design> Switch<D> {
 
     /// The state after a cycle, whose events were given.
     fn advance(&mut self, t: Tick, to_time: bool)
+        requires started { self.old.stage ≢ Unstarted }
         requires order { self.old.digital.time ≤ t }
         requires next { IfSome (next_time self.old.digital) (λ next. t ≤ next) }
         ensures stage { self.new.stage ≡ self.old.stage }
