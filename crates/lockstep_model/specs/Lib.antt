@@ -4,6 +4,7 @@ pub mod Crossing
 pub mod CrossingLaws
 pub mod Lockstep
 pub mod LookLaws
+pub mod Printing
 pub mod Rising
 pub mod RunStates
 pub mod StepSizes

@@ -1,12 +1,13 @@
 -- The walk of a run: what callers see of one that is made move by move. It knows the list of the works that are still
 -- to do, and no place, budget or digital side.
-use Rattle.std.specs.Prelude.{◌≡◌, ℕ, ◌+◌, ◌<◌, ◌≤◌, ◌^◌, ◌&&◌, ◌||◌, Bool, true, false, not, if◌then◌else◌, List, [], ◌∷◌, ◌++◌, min}
+use Rattle.std.specs.Prelude.{◌≡◌, ℕ, ◌+◌, ◌<◌, ◌≤◌, ◌^◌, ◌&&◌, ◌||◌, Bool, true, false, not, if◌then◌else◌, List, [], ◌∷◌, ◌++◌}
 use Rattle.ams_value.specs.declared.val.Val.{Val}
 use Rattle.step_data.specs.declared.tip.Tip.{Tip}
 use Rattle.step_data.specs.declared.tip.Attempt.{Attempt}
 use Rattle.step_data.specs.declared.event.Event.{Event}
 use Rattle.step_data.specs.declared.outcome.End.{End}
 use Rattle.step_data.specs.Steps.{next, is_failed}
+use Rattle.step_model.specs.Counts.{more}
 use Rattle.step_model.specs.System.{System}
 use Rattle.lockstep_model.specs.declared.moves.Answer.{Answer}
 use Rattle.lockstep_model.specs.declared.moves.Answer.TheVariants as answers
@@ -72,10 +73,6 @@ pub record Move : Type 0 where
 abbrev pub ask_of : Bool → Ask
 ask_of false = asks.None
 ask_of true = asks.Begin
-
--- counts stand still at the greatest number
-abbrev pub more : ℕ → ℕ
-more n = min (n + 1) 18446744073709551615
 
 -- the next work, where no reply is awaited
 abbrev pub proceed_to : List Work → Walk → Move

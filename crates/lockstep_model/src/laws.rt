@@ -1,6 +1,6 @@
 //! What the definitions of a run promise. Each law is proved, and does nothing when it runs.
 
-ghost use Rattle.std.specs.Prelude.{◌≡◌, ◌≢◌, ℕ, suc, ◌+◌, ◌-◌, ◌≤◌, ◌<◌, true, false, List, Result};
+ghost use Rattle.std.specs.Prelude.{◌≡◌, ◌≢◌, ℕ, suc, ◌+◌, ◌-◌, ◌≤◌, ◌<◌, true, false, ℤ, List, Result};
 ghost use Rattle.ams_value.specs.declared.val.Val.{Val};
 ghost use Rattle.step_data.specs.declared.tip.Tip.{Tip};
 ghost use Rattle.step_data.specs.declared.tip.Attempt.{Attempt};
@@ -12,7 +12,8 @@ ghost use Rattle.step_model.specs.System.{System, Landing};
 ghost use Rattle.lockstep_model.specs.Works.{Run, cycles_in, tries_in, attempts_in};
 ghost use Rattle.lockstep_model.specs.Crossing.{Bounds, located, location, is_near, middle};
 ghost use Rattle.lockstep_model.specs.CrossingLaws.{LiesWithin, CrossesAt, GivesUp, search};
-ghost use Rattle.lockstep_model.specs.Lockstep.{lockstep, locate, first_standing, until, side_step, is_there, ends_in_time};
+ghost use Rattle.lockstep_model.specs.Lockstep.{lockstep, locate, first_standing, until, side_step, is_there, ends_in_time, point_events};
+ghost use Rattle.step_model.specs.Printing.{CanPrint};
 ghost use Rattle.step_model.specs.Answers.{IsStep};
 ghost use Rattle.step_model.specs.StepLaws.{HasStep};
 ghost use Rattle.lockstep_model.specs.Continuing.{Continues, StepsFit};
@@ -131,4 +132,10 @@ pub fn attempts_are_looked_for_once()
 #[tactic(auto, using(crate::specs::LookLaws::moves_of_run))]
 pub fn moves_are_few()
     ensures { (sys : System) → moves_left (first_walk sys) ≡ most_moves (lockstep sys).works }
+{}
+
+/// The events of points can be printed.
+#[tactic(auto, using(crate::specs::Printing::points_print))]
+pub fn points_can_be_printed()
+    ensures { (sys : System) (t n : ℕ) (x : List ℤ) (branches olds : List ℕ) → CanPrint sys (point_events t n x branches olds) }
 {}
