@@ -9,6 +9,8 @@ use Rattle.fix_core.specs.Passes.{and_then}
 use Rattle.fix_core.specs.Rounding.{rnd}
 use Rattle.fix_core.specs.Fixed.{one, sum_of, difference_of, product_of, quotient_of}
 use Rattle.fix_core.specs.Laws.{sum_in_range, difference_in_range, product_in_range, quotient_in_range}
+use Rattle.fix_core.specs.Units.{most_units, most_ticks}
+use Rattle.ams_value.specs.Ranges.{most_integer}
 use Rattle.ams_value.specs.declared.fault.ValFault.{ValFault}
 use Rattle.ams_value.specs.declared.fault.ValFault.TheVariants.{Range, Overflow, DivideByZero}
 use Rattle.ams_value.specs.declared.op.UnaryOperator.{UnaryOperator}
@@ -35,37 +37,37 @@ is_of t w v i k e =
     let same : w ≡ v = cc in
     subst P same (record { within = i; typed = k })
 
-integer_in : (z : ℤ) → unsigned_abs z ≤ 2147483647 → integer_ranged z ≡ Ok (Int z)
+integer_in : (z : ℤ) → unsigned_abs z ≤ most_integer → integer_ranged z ≡ Ok (Int z)
 unfolding integer_ranged
 integer_in z h = grind arith
 
-integer_past : (z : ℤ) → 2147483647 < unsigned_abs z → integer_ranged z ≡ Err Overflow
+integer_past : (z : ℤ) → most_integer < unsigned_abs z → integer_ranged z ≡ Err Overflow
 unfolding integer_ranged
 integer_past z h = grind arith
 
-time_in : (z : ℤ) → unsigned_abs z ≤ 1000000000000000000 → time_ranged z ≡ Ok (Time z)
+time_in : (z : ℤ) → unsigned_abs z ≤ most_ticks → time_ranged z ≡ Ok (Time z)
 unfolding time_ranged
 time_in z h = grind arith
 
-time_past : (z : ℤ) → 1000000000000000000 < unsigned_abs z → time_ranged z ≡ Err Overflow
+time_past : (z : ℤ) → most_ticks < unsigned_abs z → time_ranged z ≡ Err Overflow
 unfolding time_ranged
 time_past z h = grind arith
 
 integer_typed : (z : ℤ) (v : Val) → integer_ranged z ≡ Ok v → IsOf (Some kind.Integer) v
 integer_typed z v e =
-    elim (cases_lt 2147483647 (unsigned_abs z)) [
+    elim (cases_lt most_integer (unsigned_abs z)) [
       | inl past ↦ absurd (no_value Overflow v (sym (integer_past z past) ∙ e))
       | inr le ↦ is_of (Some kind.Integer) (Int z) v le refl (sym (integer_in z le) ∙ e)
     ]
 
 time_typed : (z : ℤ) (v : Val) → time_ranged z ≡ Ok v → IsOf (Some kind.Time) v
 time_typed z v e =
-    elim (cases_lt 1000000000000000000 (unsigned_abs z)) [
+    elim (cases_lt most_ticks (unsigned_abs z)) [
       | inl past ↦ absurd (no_value Overflow v (sym (time_past z past) ∙ e))
       | inr le ↦ is_of (Some kind.Time) (Time z) v le refl (sym (time_in z le) ∙ e)
     ]
 
-real_typed : (r : Result ℤ NumFault) (v : Val) → ((y : ℤ) → r ≡ Ok y → unsigned_abs y ≤ 1000000000000000000000000) → real_result r ≡ Ok v → IsOf (Some kind.Real) v
+real_typed : (r : Result ℤ NumFault) (v : Val) → ((y : ℤ) → r ≡ Ok y → unsigned_abs y ≤ most_units) → real_result r ≡ Ok v → IsOf (Some kind.Real) v
 real_typed (Ok y) v range e = is_of (Some kind.Real) (Real y) v (range y refl) refl e
 real_typed (Err f) v range e = absurd (no_value _ v e)
 
@@ -201,22 +203,22 @@ powers_in_range times unit a most products u h (suc (suc n)) y e =
     let last = last_step (λ p. times p a) (powers times unit a (suc n)) y e in
     products last.0 y last.1
 
-integer_product_in_range : (a b y : ℤ) → integer_product a b ≡ Ok y → unsigned_abs y ≤ 2147483647
+integer_product_in_range : (a b y : ℤ) → integer_product a b ≡ Ok y → unsigned_abs y ≤ most_integer
 integer_product_in_range a b y e =
-    elim (cases_lt 2147483647 (unsigned_abs (a *ℤ b))) [
+    elim (cases_lt most_integer (unsigned_abs (a *ℤ b))) [
       | inl past ↦ let f : integer_product a b ≡ Err Overflow = product_past a b past in absurd cc
       | inr le ↦ let same : a *ℤ b ≡ y = number_same (a *ℤ b) y (sym (product_is a b le) ∙ e) in rw same at le
     ]
 
-integer_powers_in_range : (a : ℤ) (n : ℕ) (y : ℤ) → unsigned_abs a ≤ 2147483647 → integer_powers a n ≡ Ok y → unsigned_abs y ≤ 2147483647
+integer_powers_in_range : (a : ℤ) (n : ℕ) (y : ℤ) → unsigned_abs a ≤ most_integer → integer_powers a n ≡ Ok y → unsigned_abs y ≤ most_integer
 unfolding integer_powers
-integer_powers_in_range a n y h e = powers_in_range integer_product (pos 1) a 2147483647 (λ p z q. integer_product_in_range p a z q) (omega arith) h n y e
+integer_powers_in_range a n y h e = powers_in_range integer_product (pos 1) a most_integer (λ p z q. integer_product_in_range p a z q) (omega arith) h n y e
 
-real_powers_in_range : (a : ℤ) (n : ℕ) (y : ℤ) → unsigned_abs a ≤ 1000000000000000000000000 → real_powers a n ≡ Ok y → unsigned_abs y ≤ 1000000000000000000000000
+real_powers_in_range : (a : ℤ) (n : ℕ) (y : ℤ) → unsigned_abs a ≤ most_units → real_powers a n ≡ Ok y → unsigned_abs y ≤ most_units
 unfolding real_powers
-real_powers_in_range a n y h e = powers_in_range product_of one a 1000000000000000000000000 (λ p z q. product_in_range p a z q) (omega arith) h n y e
+real_powers_in_range a n y h e = powers_in_range product_of one a most_units (λ p z q. product_in_range p a z q) (omega arith) h n y e
 
-integer_result_typed : (r : Result ℤ ValFault) (v : Val) → ((y : ℤ) → r ≡ Ok y → unsigned_abs y ≤ 2147483647) → integer_result r ≡ Ok v → IsOf (Some kind.Integer) v
+integer_result_typed : (r : Result ℤ ValFault) (v : Val) → ((y : ℤ) → r ≡ Ok y → unsigned_abs y ≤ most_integer) → integer_result r ≡ Ok v → IsOf (Some kind.Integer) v
 integer_result_typed (Ok y) v range e = is_of (Some kind.Integer) (Int y) v (range y refl) refl e
 integer_result_typed (Err f) v range e = absurd (no_value f v e)
 
