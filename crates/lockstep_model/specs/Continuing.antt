@@ -21,7 +21,7 @@ use Rattle.lockstep_model.specs.Crossing.{Bounds, is_near, differs}
 use Rattle.lockstep_model.specs.Lockstep as l
 use Rattle.lockstep_model.specs.Lockstep.{PhaseStep, Following, phase, locate, goes_on, lockstep, standing, frame_at}
 
--- the tip and frame that a work leaves, where it began with these: a crossing leaves the tip as it was
+-- the tip and frame that a work leaves: an attempt that was a crossing leaves the tip as it was
 abbrev pub left_behind : Work → Standing
 left_behind (Worked kind events renews s) = s
 left_behind (Tried tip frame until made true events) = record { tip = tip; frame = frame }

@@ -7,6 +7,7 @@ pub mod LookLaws
 pub mod Printing
 pub mod Rising
 pub mod RunStates
+pub mod Solutions
 pub mod StepSizes
 pub mod StreamLaws
 pub mod Walk

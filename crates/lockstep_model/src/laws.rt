@@ -20,6 +20,7 @@ ghost use Rattle.lockstep_model.specs.Continuing.{Continues, StepsFit};
 ghost use Rattle.lockstep_model.specs.LookLaws.{most_moves};
 ghost use Rattle.lockstep_model.specs.RunStates.{RunState};
 ghost use Rattle.lockstep_model.specs.Rising.{RisesAbove, step_times};
+ghost use Rattle.lockstep_model.specs.Solutions.{AreSolved};
 ghost use Rattle.lockstep_model.specs.StreamLaws.{Extends};
 ghost use Rattle.lockstep_model.specs.Walk.{Walk, Reply, Broken, Keeps, Costs, Begins, LooksAhead, Fits, moved, first_walk, walk_after, looks_over, unlooked, moves_left};
 
@@ -138,4 +139,10 @@ pub fn moves_are_few()
 #[tactic(auto, using(crate::specs::Printing::points_print))]
 pub fn points_can_be_printed()
     ensures { (sys : System) (t n : ℕ) (x : List ℤ) (branches olds : List ℕ) → CanPrint sys (point_events t n x branches olds) }
+{}
+
+/// Each point that a run gives is the solution of the state in which the work begins, or of an accepted step from its tip.
+#[tactic(auto, using(crate::specs::Solutions::lockstep_solves))]
+pub fn points_are_solutions()
+    ensures { (sys : System) → AreSolved sys (lockstep sys).works (lockstep sys).states }
 {}
