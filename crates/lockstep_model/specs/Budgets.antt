@@ -9,23 +9,29 @@ use Rattle.step_data.specs.declared.outcome.Ran.TheVariants as rans
 use Rattle.step_data.specs.declared.outcome.End.TheVariants.{Reached, Refused}
 use Rattle.step_data.specs.Steps.{is_failed}
 use Rattle.step_model.specs.System.{System, Landing}
-use Rattle.lockstep_model.specs.Works.{Work, WorkKind, Worked, Run, Standing, before, over, cycles_in, tries_in, cycles_at, steps_at}
+use Rattle.lockstep_model.specs.Works.{Work, WorkKind, Worked, Run, Standing, before, over, cycles_in, tries_in, starts_in, cycles_at, steps_at, starts_at}
 use Rattle.lockstep_model.specs.Works as kinds
 use Rattle.lockstep_model.specs.Crossing.{Bounds, is_near, differs}
 use Rattle.lockstep_model.specs.Lockstep as l
-use Rattle.lockstep_model.specs.Lockstep.{RunState, phase, locate, goes_on, lockstep}
+use Rattle.lockstep_model.specs.RunStates.{RunState}
+use Rattle.lockstep_model.specs.Lockstep.{PhaseStep, Following, AttemptEnd, phase, locate, goes_on, lockstep}
 
 pub record Within (c n : ℕ) (r : Run) : Type 0 where
   pub cycles : cycles_in r.works ≤ c
   pub tries : tries_in r.works ≤ n
+  pub starts : starts_in r.works ≡ 0
 
 ends-within : (c n : ℕ) (r : Run) → r.works ≡ [] → Within c n r
-ends-within c n r e = record { cycles = rw e (omega arith); tries = rw e (omega arith) }
+ends-within c n r e = record { cycles = rw e (omega arith); tries = rw e (omega arith); starts = rw e refl }
 
 -- a work with so many cycles and steps before a run
-before-within : (kind : WorkKind) (c n c' n' : ℕ) (events : List Event) (renews : Bool) (s : Standing) (r : Run) → Within c n r → cycles_at kind + c ≤ c' → steps_at kind + n ≤ n' → Within c' n' (before (Worked kind events renews s) r)
-before-within kind c n c' n' events renews s r h hc hn =
-    record { cycles = let low = h.cycles in omega arith; tries = let low = h.tries in omega arith }
+before-within : (kind : WorkKind) (c n c' n' : ℕ) (p : RunState) (events : List Event) (renews : Bool) (s : Standing) (r : Run) → Within c n r → cycles_at kind + c ≤ c' → steps_at kind + n ≤ n' → starts_at kind ≡ 0 → Within c' n' (before p (Worked kind events renews s) r)
+before-within kind c n c' n' p events renews s r h hc hn hs =
+    record {
+      cycles = let low = h.cycles in omega arith;
+      tries = let low = h.tries in omega arith;
+      starts = let none = h.starts in omega arith;
+    }
 
 locate-within : (sys : System) (c : ℕ) (cross : ℕ → RunState → Run) → ((m : ℕ) (q : RunState) → Within c m (cross m q)) → (n : ℕ) (p : RunState) (b : Bounds) → Within c n (locate sys cross n p b)
 unfolding locate
@@ -39,35 +45,35 @@ locate-within sys c cross h (suc n) p b =
     (λ t. Within c (suc n) (l.searched t sys (cross (suc n)) (l.probe_run sys p (locate sys cross n p)) p b)) [
       | true ↦ h (suc n) (l.stepped_to sys p b.hi b.x)
       | false ↦
-          before-within kinds.Probe c n c (suc n) (l.bound_events sys p (l.probed sys p b)) false (l.standing sys p)
-          (locate sys cross n p (l.probed sys p b)) (locate-within sys c cross h n p (l.probed sys p b)) (omega arith) (omega arith)
+          before-within kinds.Probe c n c (suc n) p (l.bound_events sys p (l.probed sys p b)) false (l.standing sys p)
+          (locate sys cross n p (l.probed sys p b)) (locate-within sys c cross h n p (l.probed sys p b)) (omega arith) (omega arith) refl
     ]
 
-after_attempt-within : (crossed failed : Bool) (sys : System) (c n : ℕ) (crossing : Bounds → Run) (later : RunState → Run) (p : RunState) (a : Attempt) → ((b : Bounds) → Within c n (crossing b)) → ((q : RunState) → Within c n (later q)) → Within c n (l.after_attempt crossed failed sys crossing later p a)
-after_attempt-within true failed sys c n crossing later p a hc hl = hc (l.attempt_bounds p a)
-after_attempt-within false true sys c n crossing later p a hc hl = ends-within c n (l.step_too_small a.end a.cause) refl
-after_attempt-within false false sys c n crossing later p a hc hl = hl (l.behind sys p a)
+after_attempt-within : (e : AttemptEnd) (sys : System) (c n : ℕ) (crossing : Bounds → Run) (later : RunState → Run) (p : RunState) (a : Attempt) → ((b : Bounds) → Within c n (crossing b)) → ((q : RunState) → Within c n (later q)) → Within c n (l.after_attempt e sys crossing later p a)
+after_attempt-within l.Crossing sys c n crossing later p a hc hl = hc (l.attempt_bounds p a)
+after_attempt-within l.Failure sys c n crossing later p a hc hl = ends-within c n (l.step_too_small a.end a.cause) refl
+after_attempt-within l.Further sys c n crossing later p a hc hl = hl (l.behind sys p a)
 
 tried-within : (sys : System) (c n : ℕ) (crossing : Bounds → Run) (later : RunState → Run) (p : RunState) (a : Attempt) → ((b : Bounds) → Within c n (crossing b)) → ((q : RunState) → Within c n (later q)) → Within c (suc n) (l.tried sys crossing later p a)
 tried-within sys c n crossing later p a hc hl =
-    let rest = after_attempt-within (l.is_crossing sys p a) (is_failed a.kind) sys c n crossing later p a hc hl in
-    record { cycles = rest.cycles; tries = let low = rest.tries in omega arith }
+    let rest = after_attempt-within (l.attempt_end (l.is_crossing sys p a) (is_failed a.kind)) sys c n crossing later p a hc hl in
+    record { cycles = rest.cycles; tries = let low = rest.tries in omega arith; starts = rest.starts }
 
 refused_side-within : (small : Bool) (sys : System) (c n : ℕ) (refused : RunState → Run) (p : RunState) (e : Cause) → ((q : RunState) → Within c n (refused q)) → Within c (suc n) (l.refused_side small sys refused p e)
 refused_side-within true sys c n refused p e h =
-    before-within kinds.Side c n c (suc n) [] false (l.standing sys p) (l.step_too_small (l.until sys p) e)
-    (ends-within c n (l.step_too_small (l.until sys p) e) refl) (omega arith) (omega arith)
+    before-within kinds.Side c n c (suc n) p [] false (l.standing sys p) (l.step_too_small (l.until sys p) e)
+    (ends-within c n (l.step_too_small (l.until sys p) e) refl) (omega arith) (omega arith) refl
 refused_side-within false sys c n refused p e h =
-    before-within kinds.Side c n c (suc n) [] true (l.standing sys (l.side_refused sys p)) (refused (l.side_refused sys p))
-    (h (l.side_refused sys p)) (omega arith) (omega arith)
+    before-within kinds.Side c n c (suc n) p [] true (l.standing sys (l.side_refused sys p)) (refused (l.side_refused sys p))
+    (h (l.side_refused sys p)) (omega arith) (omega arith) refl
 
 accepted_side-within : (crossed : Bool) (sys : System) (c n : ℕ) (crossing : Bounds → Run) (arrive : RunState → Run) (p : RunState) (s : Landing) → ((b : Bounds) → Within c n (crossing b)) → ((q : RunState) → Within c n (arrive q)) → Within c (suc n) (l.accepted_side crossed sys crossing arrive p s)
 accepted_side-within true sys c n crossing arrive p s hc ha =
-    before-within kinds.Side c n c (suc n) (l.bound_events sys p (l.side_bounds sys p s)) false (l.standing sys p)
-    (crossing (l.side_bounds sys p s)) (hc (l.side_bounds sys p s)) (omega arith) (omega arith)
+    before-within kinds.Side c n c (suc n) p (l.bound_events sys p (l.side_bounds sys p s)) false (l.standing sys p)
+    (crossing (l.side_bounds sys p s)) (hc (l.side_bounds sys p s)) (omega arith) (omega arith) refl
 accepted_side-within false sys c n crossing arrive p s hc ha =
-    before-within kinds.Side c n c (suc n) (l.point_events (l.until sys p) 0 s.x (l.step_branches sys p) p.branches) false
-    (l.standing sys (l.side_arrived sys p s)) (arrive (l.side_arrived sys p s)) (ha (l.side_arrived sys p s)) (omega arith) (omega arith)
+    before-within kinds.Side c n c (suc n) p (l.point_events (l.until sys p) 0 s.x (l.step_branches sys p) p.branches) false
+    (l.standing sys (l.side_arrived sys p s)) (arrive (l.side_arrived sys p s)) (ha (l.side_arrived sys p s)) (omega arith) (omega arith) refl
 
 sided-within : (sys : System) (c n : ℕ) (crossing : Bounds → Run) (refused arrive : RunState → Run) (p : RunState) (o : Result Landing Cause) → ((b : Bounds) → Within c n (crossing b)) → ((q : RunState) → Within c n (refused q)) → ((q : RunState) → Within c n (arrive q)) → Within c (suc n) (l.sided sys crossing refused arrive p o)
 sided-within sys c n crossing refused arrive p (Err e) hc hr ha =
@@ -75,10 +81,10 @@ sided-within sys c n crossing refused arrive p (Err e) hc hr ha =
 sided-within sys c n crossing refused arrive p (Ok s) hc hr ha =
     accepted_side-within (differs s.x (l.thresholds_at sys p)) sys c n crossing arrive p s hc ha
 
-phase_by-within : (there fits : Bool) (sys : System) (c n : ℕ) (arrive attempt side : RunState → Run) (p : RunState) → ((q : RunState) → Within c n (arrive q)) → ((q : RunState) → Within c n (attempt q)) → ((q : RunState) → Within c n (side q)) → Within c n (l.phase_by there fits sys arrive attempt side p)
-phase_by-within true fits sys c n arrive attempt side p ha ht hs = ha (l.at_tip sys p)
-phase_by-within false true sys c n arrive attempt side p ha ht hs = ht p
-phase_by-within false false sys c n arrive attempt side p ha ht hs = hs p
+phase_by-within : (step : PhaseStep) (sys : System) (c n : ℕ) (arrive attempt side : RunState → Run) (p : RunState) → ((q : RunState) → Within c n (arrive q)) → ((q : RunState) → Within c n (attempt q)) → ((q : RunState) → Within c n (side q)) → Within c n (l.phase_by step sys arrive attempt side p)
+phase_by-within l.Arrival sys c n arrive attempt side p ha ht hs = ha (l.at_tip sys p)
+phase_by-within l.Attempted sys c n arrive attempt side p ha ht hs = ht p
+phase_by-within l.SideStep sys c n arrive attempt side p ha ht hs = hs p
 
 no_tries-within : (c n : ℕ) (q : RunState) → Within c n (l.too_many_tries q)
 no_tries-within c n q = ends-within c n (l.too_many_tries q) refl
@@ -86,10 +92,10 @@ no_tries-within c n q = ends-within c n (l.too_many_tries q) refl
 phase-within : (sys : System) (c : ℕ) (cross arrive : ℕ → RunState → Run) → ((m : ℕ) (q : RunState) → Within c m (cross m q)) → ((m : ℕ) (q : RunState) → Within c m (arrive m q)) → (n : ℕ) (p : RunState) → Within c n (phase sys cross arrive n p)
 unfolding phase
 phase-within sys c cross arrive hc ha zero p =
-    phase_by-within (l.is_there sys p) (l.ends_in_time sys p) sys c zero (arrive zero) l.too_many_tries l.too_many_tries p
+    phase_by-within (l.phase_step (l.is_there sys p) (l.ends_in_time sys p)) sys c zero (arrive zero) l.too_many_tries l.too_many_tries p
     (ha zero) (no_tries-within c zero) (no_tries-within c zero)
 phase-within sys c cross arrive hc ha (suc n) p =
-    phase_by-within (l.is_there sys p) (l.ends_in_time sys p) sys c (suc n) (arrive (suc n))
+    phase_by-within (l.phase_step (l.is_there sys p) (l.ends_in_time sys p)) sys c (suc n) (arrive (suc n))
     (λ q. l.tried sys (locate sys cross n q) (phase sys cross arrive n) q (l.attempt_at sys q))
     (λ q. l.sided sys (locate sys cross n q) (phase sys cross arrive n) (arrive n) q (l.side_at sys q)) p
     (ha (suc n))
@@ -104,15 +110,15 @@ next_delta_by-within : (many : Bool) (c n : ℕ) (begin : RunState → Run) (p :
 next_delta_by-within true c n begin p h = ends-within c n (l.too_many_deltas p) refl
 next_delta_by-within false c n begin p h = h (l.deeper p)
 
-from_place_by-within : (delta stopped : Bool) (c n : ℕ) (begin further : RunState → Run) (p : RunState) → ((q : RunState) → Within c n (begin q)) → ((q : RunState) → Within c n (further q)) → Within c n (l.from_place_by delta stopped begin further p)
-from_place_by-within true stopped c n begin further p hb hf = hb p
-from_place_by-within false true c n begin further p hb hf = ends-within c n (over (Reached p.time)) refl
-from_place_by-within false false c n begin further p hb hf = hf p
+from_place_by-within : (next : Following) (c n : ℕ) (begin further : RunState → Run) (p : RunState) → ((q : RunState) → Within c n (begin q)) → ((q : RunState) → Within c n (further q)) → Within c n (l.from_place_by next begin further p)
+from_place_by-within l.NextDelta c n begin further p hb hf = hb p
+from_place_by-within l.StopTime c n begin further p hb hf = ends-within c n (over (Reached p.time)) refl
+from_place_by-within l.NextPhase c n begin further p hb hf = hf p
 
 from_place-within : (sys : System) (c : ℕ) (begin : ℕ → Bool → RunState → Run) → ((m : ℕ) (b : Bool) (q : RunState) → Within c m (begin m b q)) → (n : ℕ) (p : RunState) → Within c n (l.from_place sys begin n p)
 from_place-within sys c begin h n p =
     let cycle : ℕ → RunState → Run = λ m q. begin m false q in
-    from_place_by-within (l.begins_delta sys p) (p.time == sys.options.stop) c n
+    from_place_by-within (l.following (l.begins_delta sys p) (p.time == sys.options.stop)) c n
     (l.next_delta sys begin n (not (l.is_due sys p))) (l.phase_from sys cycle n) p
     (λ q. next_delta_by-within (nat_le sys.deltas q.delta) c n (begin n (not (l.is_due sys p))) q (h n (not (l.is_due sys p))))
     (phase-within sys c cycle (l.at_time sys cycle) (λ m q. h m false q)
@@ -120,19 +126,19 @@ from_place-within sys c begin h n p =
 
 cycled_run-within : (sys : System) (c n : ℕ) (rest : RunState → Run) → ((q : RunState) → Within c n (rest q)) → (to_time : Bool) (p : RunState) (ran : Ran) → Within (suc c) n (l.cycled_run sys rest to_time p ran)
 cycled_run-within sys c n rest h to_time p (rans.Done broke) =
-    before-within kinds.Cycle c n (suc c) n (l.cycle_at sys to_time p).events (l.renews sys to_time p broke)
-    (l.standing sys (l.cycled sys to_time p broke)) (rest (l.cycled sys to_time p broke)) (h (l.cycled sys to_time p broke)) (omega arith) (omega arith)
+    before-within kinds.Cycle c n (suc c) n p (l.cycle_at sys to_time p).events (l.renews sys to_time p broke)
+    (l.standing sys (l.cycled sys to_time p broke)) (rest (l.cycled sys to_time p broke)) (h (l.cycled sys to_time p broke)) (omega arith) (omega arith) refl
 cycled_run-within sys c n rest h to_time p (rans.Refused refusal) =
-    before-within kinds.Cycle c n (suc c) n (l.cycle_at sys to_time p).events false (l.standing sys p)
-    (over (Refused p.time refusal)) (ends-within c n (over (Refused p.time refusal)) refl) (omega arith) (omega arith)
+    before-within kinds.Cycle c n (suc c) n p (l.cycle_at sys to_time p).events false (l.standing sys p)
+    (over (Refused p.time refusal)) (ends-within c n (over (Refused p.time refusal)) refl) (omega arith) (omega arith) refl
 
 solved_run-within : (sys : System) (c n : ℕ) (cycle : RunState → Run) → ((q : RunState) → Within c n (cycle q)) → (p : RunState) (o : Result (List ℤ) Cause) → Within c n (l.solved_run sys cycle p o)
 solved_run-within sys c n cycle h p (Ok x) =
-    before-within kinds.Solve c n c n (l.point_events p.time p.delta x (l.solution_branches sys p) p.branches) p.timed
-    (l.standing sys (l.solved_at sys p x)) (cycle (l.solved_at sys p x)) (h (l.solved_at sys p x)) (omega arith) (omega arith)
+    before-within kinds.Solve c n c n p (l.point_events p.time p.delta x (l.solution_branches sys p) p.branches) p.timed
+    (l.standing sys (l.solved_at sys p x)) (cycle (l.solved_at sys p x)) (h (l.solved_at sys p x)) (omega arith) (omega arith) refl
 solved_run-within sys c n cycle h p (Err e) =
-    before-within kinds.Solve c n c n [] false (l.standing sys p) (l.unsolvable p e)
-    (ends-within c n (l.unsolvable p e) refl) (omega arith) (omega arith)
+    before-within kinds.Solve c n c n p [] false (l.standing sys p) (l.unsolvable p e)
+    (ends-within c n (l.unsolvable p e) refl) (omega arith) (omega arith) refl
 
 delta_by-within : (needs : Bool) (sys : System) (c n : ℕ) (cycle : RunState → Run) (p : RunState) → ((q : RunState) → Within c n (cycle q)) → Within c n (l.delta_by needs sys cycle p)
 delta_by-within true sys c n cycle p h = solved_run-within sys c n cycle h p (l.solution sys p)
@@ -151,15 +157,22 @@ goes_on-within sys (suc c) n p =
     from_place-within sys (suc c) (λ m b q. l.delta_run sys (goes_on sys c m) b q)
     (λ m b q. delta_run-within sys c m (goes_on sys c m) (goes_on-within sys c m) b q) n p
 
-started_run-within : (sys : System) (ran : Ran) → Within sys.cycles sys.tries (l.started_run sys ran)
-started_run-within sys (rans.Done broke) =
-    before-within kinds.Start sys.cycles sys.tries sys.cycles sys.tries (l.first_cycle sys).events false
-    (l.standing sys (l.first_place sys broke)) (goes_on sys sys.cycles sys.tries (l.first_place sys broke))
-    (goes_on-within sys sys.cycles sys.tries (l.first_place sys broke)) (omega arith) (omega arith)
-started_run-within sys (rans.Refused refusal) =
-    before-within kinds.Start sys.cycles sys.tries sys.cycles sys.tries (l.first_cycle sys).events false
-    (l.first_standing sys) (over (Refused 0 refusal)) (ends-within sys.cycles sys.tries (over (Refused 0 refusal)) refl) (omega arith) (omega arith)
+-- a whole run has one start, and stays within its budgets
+pub record WithinBudgets (sys : System) (r : Run) : Type 0 where
+  pub cycles : cycles_in r.works ≤ sys.cycles
+  pub tries : tries_in r.works ≤ sys.tries
+  pub starts : starts_in r.works ≡ 1
 
--- the run stays within its budgets
-pub lockstep_within : (sys : System) → Within sys.cycles sys.tries (lockstep sys)
+started_run-within : (sys : System) (ran : Ran) → WithinBudgets sys (l.started_run sys ran)
+started_run-within sys (rans.Done broke) =
+    let rest = goes_on-within sys sys.cycles sys.tries (l.first_place sys broke) in
+    record {
+      cycles = let low = rest.cycles in omega arith;
+      tries = let low = rest.tries in omega arith;
+      starts = let none = rest.starts in omega arith;
+    }
+started_run-within sys (rans.Refused refusal) =
+    record { cycles = omega arith; tries = omega arith; starts = refl }
+
+pub lockstep_within : (sys : System) → WithinBudgets sys (lockstep sys)
 lockstep_within sys = started_run-within sys (l.first_cycle sys).ran

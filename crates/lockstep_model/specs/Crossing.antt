@@ -45,3 +45,7 @@ unfoldable pub located : ℕ → (ℕ → Result Landing Cause) → List Thresho
 located xres step thresholds zero b = b
 located xres step thresholds (suc n) b =
     located_by (is_near xres b) (λ c. located xres step thresholds n (narrowed thresholds c (step (middle c)))) b
+
+-- where a crossing is located: each turn makes the distance of the bounds less, so as many turns as that are enough
+abbrev pub location : ℕ → (ℕ → Result Landing Cause) → List ThresholdState → Bounds → Bounds
+location xres step thresholds b = located xres step thresholds (b.hi - b.lo) b

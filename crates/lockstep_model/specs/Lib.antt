@@ -1,8 +1,14 @@
 pub mod Budgets
+pub mod Continuing
 pub mod Crossing
 pub mod CrossingLaws
 pub mod Lockstep
+pub mod LookLaws
+pub mod Printing
 pub mod Rising
+pub mod RunStates
+pub mod Solutions
+pub mod StepSizes
 pub mod StreamLaws
 pub mod Walk
 pub mod WalkLaws

@@ -1,8 +1,7 @@
 -- Lockstep: the run of a system by one thing after another, each attempt computed afresh, and no step past the next
 -- digital time (own, after the mixed cycle of IEEE 1076.1).
-use Rattle.std.specs.Prelude.{ℕ, zero, suc, ◌+◌, ◌-◌, ◌/◌, ◌==◌, Bool, true, false, not, ◌&&◌, ◌||◌, nat_lt, nat_le, max, if◌then◌else◌, ℤ, List, [], ◌∷◌, ◌++◌, replicate, Option, Some, None, Result, Ok, Err}
+use Rattle.std.specs.Prelude.{ℕ, zero, suc, ◌+◌, ◌-◌, ◌/◌, ◌==◌, Bool, true, false, not, ◌&&◌, ◌||◌, nat_lt, nat_le, max, if◌then◌else◌, ℤ, List, [], ◌∷◌, ◌++◌, Option, Some, None, Result, Ok, Err}
 use Rattle.ams_value.specs.declared.val.Val.{Val}
-use Rattle.ams_value.specs.declared.val.Val.TheVariants as vals
 use Rattle.step_data.specs.declared.tip.Tip.{Tip}
 use Rattle.step_data.specs.declared.tip.Attempt.{Attempt}
 use Rattle.step_data.specs.declared.breaks.Element.{Element}
@@ -21,26 +20,11 @@ use Rattle.message_codes.specs.Codes as codes
 use Rattle.step_data.specs.Same.{same_frame}
 use Rattle.step_data.specs.Times.{earliest}
 use Rattle.step_data.specs.Steps.{end_of, next, is_accepted, is_failed}
-use Rattle.step_model.specs.System.{System, Digital, CycleOutcome, Landing, attempt}
+use Rattle.step_model.specs.System.{System, CycleOutcome, Landing, attempt}
+use Rattle.lockstep_model.specs.RunStates.{RunState}
 use Rattle.lockstep_model.specs.Works.{Run, Work, Worked, Tried, Standing, before, over}
 use Rattle.lockstep_model.specs.Works as kinds
 use Rattle.lockstep_model.specs.Crossing.{differs, Bounds, is_near, middle, narrowed}
-
--- where lockstep stands between two works: the digital side; the digital time and the delta at it; whether DOMAIN is
--- TIME_DOMAIN; whether the last cycle executed a break; the values that processes read; the tip; the frame of the last
--- quiescent solution; the break elements that were executed before TIME_DOMAIN; and the branches at the last point that
--- was given, none before the first
-pub record RunState : Type 0 where
-  pub digital : Digital
-  pub time : ℕ
-  pub delta : ℕ
-  pub timed : Bool
-  pub broke : Bool
-  pub point : List ℤ
-  pub tip : Tip
-  pub solved : Option (List Val)
-  pub gathered : List Element
-  pub branches : List ℕ
 
 -- the refusals of the run itself
 abbrev pub ends_with : ℕ → ℕ → Option ℕ → Run
@@ -161,8 +145,8 @@ solution_work sys p x =
 
 -- a solution, and the cycle that follows unless it was refused
 abbrev pub solved_run : System → (RunState → Run) → RunState → Result (List ℤ) Cause → Run
-solved_run sys cycle p (Ok x) = before (solution_work sys p x) (cycle (solved_at sys p x))
-solved_run sys cycle p (Err c) = before (Worked kinds.Solve [] false (standing sys p)) (unsolvable p c)
+solved_run sys cycle p (Ok x) = before p (solution_work sys p x) (cycle (solved_at sys p x))
+solved_run sys cycle p (Err c) = before p (Worked kinds.Solve [] false (standing sys p)) (unsolvable p c)
 
 -- Cycles at a place; `to_time` says that DOMAIN becomes TIME_DOMAIN in it.
 abbrev pub cycle_at : System → Bool → RunState → CycleOutcome
@@ -195,9 +179,9 @@ cycle_work sys to_time p broke =
 -- a cycle, and what follows unless it was refused
 abbrev pub cycled_run : System → (RunState → Run) → Bool → RunState → Ran → Run
 cycled_run sys rest to_time p (rans.Done broke) =
-    before (cycle_work sys to_time p broke) (rest (cycled sys to_time p broke))
+    before p (cycle_work sys to_time p broke) (rest (cycled sys to_time p broke))
 cycled_run sys rest to_time p (rans.Refused refusal) =
-    before (Worked kinds.Cycle (cycle_at sys to_time p).events false (standing sys p)) (over (Refused p.time refusal))
+    before p (Worked kinds.Cycle (cycle_at sys to_time p).events false (standing sys p)) (over (Refused p.time refusal))
 
 abbrev pub cycle_run : System → (RunState → Run) → Bool → RunState → Run
 cycle_run sys rest to_time p = cycled_run sys rest to_time p (cycle_at sys to_time p).ran
@@ -242,7 +226,7 @@ searched false sys cross further p b = further b
 
 abbrev pub probe_run : System → RunState → (Bounds → Run) → Bounds → Run
 probe_run sys p further b =
-    before (Worked kinds.Probe (bound_events sys p (probed sys p b)) false (standing sys p)) (further (probed sys p b))
+    before p (Worked kinds.Probe (bound_events sys p (probed sys p b)) false (standing sys p)) (further (probed sys p b))
 
 -- The search of a crossing between its bounds, and the cycle there. No more tries than are left.
 unfoldable pub locate : System → (ℕ → RunState → Run) → ℕ → RunState → Bounds → Run
@@ -281,14 +265,22 @@ behind sys p a =
     record p { tip = next p.tip a; branches = if gives_point p a then step_branches sys p else p.branches }
 
 -- what follows an attempt: the search of its crossing, the end where it failed, else what is behind it
-abbrev pub after_attempt : Bool → Bool → System → (Bounds → Run) → (RunState → Run) → RunState → Attempt → Run
-after_attempt true failed sys crossing later p a = crossing (attempt_bounds p a)
-after_attempt false true sys crossing later p a = step_too_small a.end a.cause
-after_attempt false false sys crossing later p a = later (behind sys p a)
+pub data AttemptEnd : Type 0 where
+  Crossing : AttemptEnd
+  Failure : AttemptEnd
+  Further : AttemptEnd
+
+abbrev pub attempt_end : Bool → Bool → AttemptEnd
+attempt_end crossed failed = if crossed then Crossing else if failed then Failure else Further
+
+abbrev pub after_attempt : AttemptEnd → System → (Bounds → Run) → (RunState → Run) → RunState → Attempt → Run
+after_attempt Crossing sys crossing later p a = crossing (attempt_bounds p a)
+after_attempt Failure sys crossing later p a = step_too_small a.end a.cause
+after_attempt Further sys crossing later p a = later (behind sys p a)
 
 abbrev pub tried : System → (Bounds → Run) → (RunState → Run) → RunState → Attempt → Run
 tried sys crossing later p a =
-    before (attempt_work sys p a) (after_attempt (is_crossing sys p a) (is_failed a.kind) sys crossing later p a)
+    before p (attempt_work sys p a) (after_attempt (attempt_end (is_crossing sys p a) (is_failed a.kind)) sys crossing later p a)
 
 abbrev pub side_step : System → RunState → ℕ
 side_step sys p = until sys p - p.tip.t
@@ -314,16 +306,16 @@ side_bounds sys p l = crossing_bounds p (until sys p) l.x
 -- a side step that was refused, which ends the run where its half is too small
 abbrev pub refused_side : Bool → System → (RunState → Run) → RunState → Cause → Run
 refused_side true sys refused p c =
-    before (Worked kinds.Side [] false (standing sys p)) (step_too_small (until sys p) c)
+    before p (Worked kinds.Side [] false (standing sys p)) (step_too_small (until sys p) c)
 refused_side false sys refused p c =
-    before (Worked kinds.Side [] true (standing sys (side_refused sys p))) (refused (side_refused sys p))
+    before p (Worked kinds.Side [] true (standing sys (side_refused sys p))) (refused (side_refused sys p))
 
 -- one that was accepted: a crossing, or an arrival
 abbrev pub accepted_side : Bool → System → (Bounds → Run) → (RunState → Run) → RunState → Landing → Run
 accepted_side true sys crossing arrive p l =
-    before (Worked kinds.Side (bound_events sys p (side_bounds sys p l)) false (standing sys p)) (crossing (side_bounds sys p l))
+    before p (Worked kinds.Side (bound_events sys p (side_bounds sys p l)) false (standing sys p)) (crossing (side_bounds sys p l))
 accepted_side false sys crossing arrive p l =
-    before (Worked kinds.Side (point_events (until sys p) 0 l.x (step_branches sys p) p.branches) false (standing sys (side_arrived sys p l))) (arrive (side_arrived sys p l))
+    before p (Worked kinds.Side (point_events (until sys p) 0 l.x (step_branches sys p) p.branches) false (standing sys (side_arrived sys p l))) (arrive (side_arrived sys p l))
 
 abbrev pub is_too_small : System → RunState → Bool
 is_too_small sys p = nat_lt (side_step sys p / 2) sys.options.hmin
@@ -332,11 +324,19 @@ abbrev pub sided : System → (Bounds → Run) → (RunState → Run) → (RunSt
 sided sys crossing refused arrive p (Err c) = refused_side (is_too_small sys p) sys refused p c
 sided sys crossing refused arrive p (Ok l) = accepted_side (differs l.x (thresholds_at sys p)) sys crossing arrive p l
 
--- what comes in a phase: the arrival where the tip is there, an attempt that ends in time, or a side step
-abbrev pub phase_by : Bool → Bool → System → (RunState → Run) → (RunState → Run) → (RunState → Run) → RunState → Run
-phase_by true fits sys arrive attempt side p = arrive (at_tip sys p)
-phase_by false true sys arrive attempt side p = attempt p
-phase_by false false sys arrive attempt side p = side p
+-- what comes next in a phase: the arrival where the tip is there, an attempt where it ends in time, else a side step
+pub data PhaseStep : Type 0 where
+  Arrival : PhaseStep
+  Attempted : PhaseStep
+  SideStep : PhaseStep
+
+abbrev pub phase_step : Bool → Bool → PhaseStep
+phase_step there fits = if there then Arrival else if fits then Attempted else SideStep
+
+abbrev pub phase_by : PhaseStep → System → (RunState → Run) → (RunState → Run) → (RunState → Run) → RunState → Run
+phase_by Arrival sys arrive attempt side p = arrive (at_tip sys p)
+phase_by Attempted sys arrive attempt side p = attempt p
+phase_by SideStep sys arrive attempt side p = side p
 
 abbrev pub is_there : System → RunState → Bool
 is_there sys p = p.tip.t == until sys p
@@ -348,9 +348,9 @@ ends_in_time sys p = nat_le (end_of p.tip) (until sys p)
 -- at the next time. No more tries than are left.
 unfoldable pub phase : System → (ℕ → RunState → Run) → (ℕ → RunState → Run) → ℕ → RunState → Run
 phase sys cross arrive zero p =
-    phase_by (is_there sys p) (ends_in_time sys p) sys (arrive zero) too_many_tries too_many_tries p
+    phase_by (phase_step (is_there sys p) (ends_in_time sys p)) sys (arrive zero) too_many_tries too_many_tries p
 phase sys cross arrive (suc n) p =
-    phase_by (is_there sys p) (ends_in_time sys p) sys (arrive (suc n))
+    phase_by (phase_step (is_there sys p) (ends_in_time sys p)) sys (arrive (suc n))
     (λ q. tried sys (locate sys cross n q) (phase sys cross arrive n) q (attempt_at sys q))
     (λ q. sided sys (locate sys cross n q) (phase sys cross arrive n) (arrive n) q (side_at sys q)) p
 
@@ -373,12 +373,20 @@ next_delta_by false begin p = begin (deeper p)
 abbrev pub next_delta : System → (ℕ → Bool → RunState → Run) → ℕ → Bool → RunState → Run
 next_delta sys begin n to_time p = next_delta_by (nat_le sys.deltas p.delta) (begin n to_time) p
 
--- A cycle where one is due; in QUIESCENT_DOMAIN without one the change of DOMAIN; the end at the stop time; else the
--- phase up to the next time.
-abbrev pub from_place_by : Bool → Bool → (RunState → Run) → (RunState → Run) → RunState → Run
-from_place_by true stopped delta further p = delta p
-from_place_by false true delta further p = over (Reached p.time)
-from_place_by false false delta further p = further p
+-- What follows at a place: a cycle where one is due, and in QUIESCENT_DOMAIN without one the change of DOMAIN; the end at
+-- the stop time; else the phase up to the next time.
+pub data Following : Type 0 where
+  NextDelta : Following
+  StopTime : Following
+  NextPhase : Following
+
+abbrev pub following : Bool → Bool → Following
+following begins stopped = if begins then NextDelta else if stopped then StopTime else NextPhase
+
+abbrev pub from_place_by : Following → (RunState → Run) → (RunState → Run) → RunState → Run
+from_place_by NextDelta delta further p = delta p
+from_place_by StopTime delta further p = over (Reached p.time)
+from_place_by NextPhase delta further p = further p
 
 abbrev pub begins_delta : System → RunState → Bool
 begins_delta sys p = is_due sys p || not p.timed
@@ -388,7 +396,7 @@ phase_from sys cycle n p = phase sys cycle (at_time sys cycle) n p
 
 abbrev pub from_place : System → (ℕ → Bool → RunState → Run) → ℕ → RunState → Run
 from_place sys begin n p =
-    from_place_by (begins_delta sys p) (p.time == sys.options.stop)
+    from_place_by (following (begins_delta sys p) (p.time == sys.options.stop))
     (next_delta sys begin n (not (is_due sys p))) (phase_from sys (λ m q. begin m false q) n) p
 
 -- what follows, with the cycles and the tries that are left
@@ -415,17 +423,31 @@ first_place sys broke =
       branches = [];
     }
 
--- before the start no signal has a value
+-- before the start each signal has its initial value
+abbrev pub unstarted_state : System → RunState
+unstarted_state sys =
+    record {
+      digital = sys.unstarted;
+      time = 0;
+      delta = 0;
+      timed = false;
+      broke = false;
+      point = sys.initial;
+      tip = new_tip sys 0 sys.initial;
+      solved = None;
+      gathered = [];
+      branches = [];
+    }
+
 abbrev pub first_standing : System → Standing
-first_standing sys =
-    record { tip = new_tip sys 0 sys.initial; frame = replicate sys.frame_len (vals.Bool false) }
+first_standing sys = standing sys (unstarted_state sys)
 
 abbrev pub started_run : System → Ran → Run
 started_run sys (rans.Done broke) =
-    before (Worked kinds.Start (first_cycle sys).events false (standing sys (first_place sys broke)))
+    before (unstarted_state sys) (Worked kinds.Start (first_cycle sys).events false (standing sys (first_place sys broke)))
     (goes_on sys sys.cycles sys.tries (first_place sys broke))
 started_run sys (rans.Refused refusal) =
-    before (Worked kinds.Start (first_cycle sys).events false (first_standing sys)) (over (Refused 0 refusal))
+    before (unstarted_state sys) (Worked kinds.Start (first_cycle sys).events false (first_standing sys)) (over (Refused 0 refusal))
 
 -- the whole run
 abbrev pub lockstep : System → Run

@@ -20,7 +20,8 @@ use Rattle.lockstep_model.specs.Works.{Work, WorkKind, Worked, Tried, Run, Stand
 use Rattle.lockstep_model.specs.Works as kinds
 use Rattle.lockstep_model.specs.Crossing.{Bounds, is_near, differs, narrowed, middle, lower_half, upper_half}
 use Rattle.lockstep_model.specs.Lockstep as l
-use Rattle.lockstep_model.specs.Lockstep.{RunState, phase, locate, goes_on, lockstep, branch_event, branch_events}
+use Rattle.lockstep_model.specs.RunStates.{RunState}
+use Rattle.lockstep_model.specs.Lockstep.{phase_step, following, attempt_end, phase, locate, goes_on, lockstep, branch_event, branch_events}
 
 -- the times of the points among events
 abbrev pub point_times : List Event → List ℕ
@@ -248,7 +249,7 @@ abbrev GoesOn : System → (RunState → Run) → Type 0
 GoesOn sys later = (q : RunState) → InPhase sys q → Rises (reached q) (later q)
 
 -- the points of what follows an attempt that was no crossing, above a bound that the next ones have
-uncrossed-rises : (failed : Bool) (sys : System) (crossing : Bounds → Run) (later : RunState → Run) (p : RunState) (a : Attempt) (bound : ℕ) → IsTried sys p a → GoesOn sys later → bound ≤ reached (l.behind sys p a) → Rises bound (l.after_attempt false failed sys crossing later p a)
+uncrossed-rises : (failed : Bool) (sys : System) (crossing : Bounds → Run) (later : RunState → Run) (p : RunState) (a : Attempt) (bound : ℕ) → IsTried sys p a → GoesOn sys later → bound ≤ reached (l.behind sys p a) → Rises bound (l.after_attempt (attempt_end false failed) sys crossing later p a)
 uncrossed-rises true sys crossing later p a bound h hl low = tt
 uncrossed-rises false sys crossing later p a bound h hl low =
     rises-lower bound (reached (l.behind sys p a)) (step_times (later (l.behind sys p a)).works) low
@@ -266,10 +267,10 @@ point-reached sys p a e =
     next_by-accepted a.kind p.tip a (and_first (is_accepted a.kind) (nat_lt p.time a.end) e) in
     omega arith
 
-given-rises : (sys : System) (crossing : Bounds → Run) (later : RunState → Run) (p : RunState) (a : Attempt) → IsTried sys p a → GoesOn sys later → RisesAbove (reached p) (point_times (cond (l.gives_point p a) (l.point_events a.end 0 a.x (l.step_branches sys p) p.branches) []) ++ step_times (l.after_attempt false (is_failed a.kind) sys crossing later p a).works)
+given-rises : (sys : System) (crossing : Bounds → Run) (later : RunState → Run) (p : RunState) (a : Attempt) → IsTried sys p a → GoesOn sys later → RisesAbove (reached p) (point_times (cond (l.gives_point p a) (l.point_events a.end 0 a.x (l.step_branches sys p) p.branches) []) ++ step_times (l.after_attempt (attempt_end false (is_failed a.kind)) sys crossing later p a).works)
 given-rises sys crossing later p a h hl =
     elim (l.gives_point p a) as
-    (λ t. l.gives_point p a ≡ t → RisesAbove (reached p) (point_times (cond t (l.point_events a.end 0 a.x (l.step_branches sys p) p.branches) []) ++ step_times (l.after_attempt false (is_failed a.kind) sys crossing later p a).works)) [
+    (λ t. l.gives_point p a ≡ t → RisesAbove (reached p) (point_times (cond t (l.point_events a.end 0 a.x (l.step_branches sys p) p.branches) []) ++ step_times (l.after_attempt (attempt_end false (is_failed a.kind)) sys crossing later p a).works)) [
       | true ↦
           λ e.
           let after = point-after p a e in
@@ -283,7 +284,7 @@ given-rises sys crossing later p a h hl =
 tried-rises : (sys : System) (crossing : Bounds → Run) (later : RunState → Run) (p : RunState) (a : Attempt) → IsTried sys p a → Searches sys p crossing → GoesOn sys later → Rises (reached p) (l.tried sys crossing later p a)
 tried-rises sys crossing later p a h hc hl =
     elim (l.is_crossing sys p a) as
-    (λ t. l.is_crossing sys p a ≡ t → RisesAbove (reached p) (point_times (cond t (l.bound_events sys p (l.attempt_bounds p a)) (cond (l.gives_point p a) (l.point_events a.end 0 a.x (l.step_branches sys p) p.branches) [])) ++ step_times (l.after_attempt t (is_failed a.kind) sys crossing later p a).works)) [
+    (λ t. l.is_crossing sys p a ≡ t → RisesAbove (reached p) (point_times (cond t (l.bound_events sys p (l.attempt_bounds p a)) (cond (l.gives_point p a) (l.point_events a.end 0 a.x (l.step_branches sys p) p.branches) [])) ++ step_times (l.after_attempt (attempt_end t (is_failed a.kind)) sys crossing later p a).works)) [
       | true ↦
           λ e.
           hc (l.attempt_bounds p a) (attempt-between sys p a h (and_first (l.gives_point p a) (differs a.x (l.thresholds_at sys p)) e))
@@ -350,15 +351,15 @@ at_tip-rises sys arrive ha n p h =
     (ha n (l.at_tip sys p) (record { tip = h.tip; within = h.within; step = h.step }))
 
 -- what comes in a phase rises where its parts do
-phase_by-rises : (sys : System) (arrive attempt side : RunState → Run) (p : RunState) → Rises (reached p) (arrive (l.at_tip sys p)) → (l.ends_in_time sys p ≡ true → Rises (reached p) (attempt p)) → (l.is_there sys p ≡ false → l.ends_in_time sys p ≡ false → Rises (reached p) (side p)) → Rises (reached p) (l.phase_by (l.is_there sys p) (l.ends_in_time sys p) sys arrive attempt side p)
+phase_by-rises : (sys : System) (arrive attempt side : RunState → Run) (p : RunState) → Rises (reached p) (arrive (l.at_tip sys p)) → (l.ends_in_time sys p ≡ true → Rises (reached p) (attempt p)) → (l.is_there sys p ≡ false → l.ends_in_time sys p ≡ false → Rises (reached p) (side p)) → Rises (reached p) (l.phase_by (phase_step (l.is_there sys p) (l.ends_in_time sys p)) sys arrive attempt side p)
 phase_by-rises sys arrive attempt side p ha ht hs =
     elim (l.is_there sys p) as
-    (λ t. l.is_there sys p ≡ t → Rises (reached p) (l.phase_by t (l.ends_in_time sys p) sys arrive attempt side p)) [
+    (λ t. l.is_there sys p ≡ t → Rises (reached p) (l.phase_by (phase_step t (l.ends_in_time sys p)) sys arrive attempt side p)) [
       | true ↦ λ there. ha
       | false ↦
           λ apart.
           elim (l.ends_in_time sys p) as
-          (λ t. l.ends_in_time sys p ≡ t → Rises (reached p) (l.phase_by false t sys arrive attempt side p)) [
+          (λ t. l.ends_in_time sys p ≡ t → Rises (reached p) (l.phase_by (phase_step false t) sys arrive attempt side p)) [
             | true ↦ ht
             | false ↦ hs apart
           ] refl
@@ -436,15 +437,15 @@ next_delta-rises true sys begin h p placed = tt
 next_delta-rises false sys begin h p placed =
     h (l.deeper p) (record { tip = placed.tip; within = placed.within; step = placed.step })
 
-from_place_by-rises : (sys : System) (delta further : RunState → Run) (p : RunState) → Rises p.time (delta p) → (l.begins_delta sys p ≡ false → (p.time == sys.options.stop) ≡ false → Rises p.time (further p)) → Rises p.time (l.from_place_by (l.begins_delta sys p) (p.time == sys.options.stop) delta further p)
+from_place_by-rises : (sys : System) (delta further : RunState → Run) (p : RunState) → Rises p.time (delta p) → (l.begins_delta sys p ≡ false → (p.time == sys.options.stop) ≡ false → Rises p.time (further p)) → Rises p.time (l.from_place_by (following (l.begins_delta sys p) (p.time == sys.options.stop)) delta further p)
 from_place_by-rises sys delta further p hd hf =
     elim (l.begins_delta sys p) as
-    (λ t. l.begins_delta sys p ≡ t → Rises p.time (l.from_place_by t (p.time == sys.options.stop) delta further p)) [
+    (λ t. l.begins_delta sys p ≡ t → Rises p.time (l.from_place_by (following t (p.time == sys.options.stop)) delta further p)) [
       | true ↦ λ e. hd
       | false ↦
           λ none.
           elim (p.time == sys.options.stop) as
-          (λ t. (p.time == sys.options.stop) ≡ t → Rises p.time (l.from_place_by false t delta further p)) [
+          (λ t. (p.time == sys.options.stop) ≡ t → Rises p.time (l.from_place_by (following false t) delta further p)) [
             | true ↦ λ e. tt
             | false ↦ hf none
           ] refl

@@ -1,12 +1,13 @@
 -- The walk of a run: what callers see of one that is made move by move. It knows the list of the works that are still
 -- to do, and no place, budget or digital side.
-use Rattle.std.specs.Prelude.{◌≡◌, ℕ, ◌+◌, ◌<◌, ◌≤◌, ◌^◌, ◌&&◌, ◌||◌, Bool, true, false, not, if◌then◌else◌, List, [], ◌∷◌, ◌++◌, min}
+use Rattle.std.specs.Prelude.{◌≡◌, ℕ, ◌+◌, ◌<◌, ◌≤◌, ◌^◌, ◌&&◌, ◌||◌, Bool, true, false, not, if◌then◌else◌, List, [], ◌∷◌, ◌++◌}
 use Rattle.ams_value.specs.declared.val.Val.{Val}
 use Rattle.step_data.specs.declared.tip.Tip.{Tip}
 use Rattle.step_data.specs.declared.tip.Attempt.{Attempt}
 use Rattle.step_data.specs.declared.event.Event.{Event}
 use Rattle.step_data.specs.declared.outcome.End.{End}
 use Rattle.step_data.specs.Steps.{next, is_failed}
+use Rattle.step_model.specs.Counts.{more}
 use Rattle.step_model.specs.System.{System}
 use Rattle.lockstep_model.specs.declared.moves.Answer.{Answer}
 use Rattle.lockstep_model.specs.declared.moves.Answer.TheVariants as answers
@@ -72,10 +73,6 @@ pub record Move : Type 0 where
 abbrev pub ask_of : Bool → Ask
 ask_of false = asks.None
 ask_of true = asks.Begin
-
--- counts stand still at the greatest number
-abbrev pub more : ℕ → ℕ
-more n = min (n + 1) 18446744073709551615
 
 -- the next work, where no reply is awaited
 abbrev pub proceed_to : List Work → Walk → Move
@@ -282,3 +279,41 @@ may_begin Broken = 0
 pub record Begins (w : Walk) (reply : Reply) (m : Move) : Type 0 where
   pub least : renewals_in w.works ≤ begins_said m.says + renewals_in m.walk.works
   pub most : begins_said m.says + renewals_in m.walk.works + may_begin m.walk.awaited ≤ renewals_in w.works + may_begin w.awaited + nothing reply
+
+-- how many looks a move asks for
+abbrev pub looks_asked : Ask → ℕ
+looks_asked asks.None = 0
+looks_asked asks.Begin = 0
+looks_asked (asks.Look until) = 1
+looks_asked asks.Consume = 0
+
+abbrev pub looks_said : Moved → ℕ
+looks_said (says.Ended e) = 0
+looks_said (says.Ask ask) = looks_asked ask
+
+abbrev pub rest_of : List Work → List Work
+rest_of [] = []
+rest_of (w ∷ works) = works
+
+-- how many attempts are still to be looked for
+abbrev pub unlooked_by : Awaited → List Work → ℕ
+unlooked_by Ready works = attempts_in works
+unlooked_by Looking works = attempts_in (rest_of works)
+unlooked_by (Settling own next) works = attempts_in works
+unlooked_by Broken works = attempts_in works
+
+abbrev pub unlooked : Walk → ℕ
+unlooked w = unlooked_by w.awaited w.works
+
+-- a look asks for one of them
+abbrev pub Looks : Walk → Move → Type 0
+Looks w m = looks_said m.says + unlooked m.walk ≡ unlooked w
+
+-- the walk behind some moves, and how many looks they asked for
+abbrev pub walk_after : List Reply → Walk → Walk
+walk_after [] w = w
+walk_after (reply ∷ replies) w = walk_after replies (moved w reply).walk
+
+abbrev pub looks_over : List Reply → Walk → ℕ
+looks_over [] w = 0
+looks_over (reply ∷ replies) w = looks_said (moved w reply).says + looks_over replies (moved w reply).walk

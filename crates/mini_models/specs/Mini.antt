@@ -145,6 +145,7 @@ system_of plan deltas cycles tries =
       trial = step plan;
       settle = settled plan;
       choose = chosen;
+      unstarted = digital_of 0 false false None;
       start = started plan;
       cycle = cycled plan;
       next_time = next_time;
@@ -173,6 +174,7 @@ pub record RunsAs (sys : System) (plan : Plan) : Type 0 where
   pub frame_len : sys.frame_len ≡ 1
   pub is_frame : sys.is_frame ≡ is_one
   pub is_printable : (v : Val) → sys.is_printable v ≡ true
+  pub unstarted : sys.unstarted ≡ digital_of 0 false false None
   pub start : sys.start ≡ started plan
   pub cycle : sys.cycle ≡ cycled plan
   pub next_time : sys.next_time ≡ next_time

@@ -116,6 +116,7 @@ ramp_system =
       trial = risen;
       settle = λ frame t set elements x. Ok (values (pos 0));
       choose = λ frame t kind x. Ok [];
+      unstarted = digital_of 0 false false false [] [];
       start = λ x.
           record {
             digital = digital_of 0 false false false (record { at = 0; value = Bit false } ∷ []) (element ∷ []);

@@ -1,6 +1,7 @@
 -- A solver as its contracts see it.
 use Rattle.std.specs.Prelude.{ℕ, ◌≤◌, min}
 use Rattle.std.proofs.Common.{arith}
+use Rattle.step_model.specs.Counts.{greatest_count}
 
 -- the part that it solves, and how many trials and attempts it has made
 pub record Solver : Type 0 where
@@ -8,7 +9,7 @@ pub record Solver : Type 0 where
   pub made : ℕ
 
 abbrev pub count_of : Solver → ℕ
-count_of s = min s.made 18446744073709551615
+count_of s = min s.made greatest_count
 
-pub count-bounded : (s : Solver) → count_of s ≤ 18446744073709551615
+pub count-bounded : (s : Solver) → count_of s ≤ greatest_count
 count-bounded s = omega arith

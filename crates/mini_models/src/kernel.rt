@@ -36,7 +36,7 @@ impl<D: Design> Model for Switch<D> {
 
     ghost view = { λ a. record { stage = a.stage; digital = digital_of a.time a.timed a.value a.pending } };
 
-    ghost invariant = { λ a. IsSound (D.system 0) a.plan a.stage a.time a.pending a.elements a.thresholds };
+    ghost invariant = { λ a. IsSound (D.system 0) a.plan a.stage a.time a.value a.pending a.elements a.thresholds };
 }
 
 impl Plan {
@@ -82,6 +82,7 @@ impl<D: Design> Switch<D> {
 
     /// The state after a cycle, whose events were given.
     fn advance(&mut self, t: Tick, to_time: bool)
+        requires started { self.old.stage ≢ Unstarted }
         requires order { self.old.digital.time ≤ t }
         requires next { IfSome (next_time self.old.digital) (λ next. t ≤ next) }
         ensures stage { self.new.stage ≡ self.old.stage }

@@ -1,41 +1,15 @@
 -- The tests of `Same` decide equality.
-use Rattle.std.specs.Prelude.{◌≡◌, Bool, true, false, ℕ, ◌==◌, ◌&&◌, ℤ, List, [], ◌∷◌, refl}
+use Rattle.std.specs.Prelude.{◌≡◌, Bool, true, ℕ, ◌==◌, ◌&&◌, ℤ, List, [], ◌∷◌, refl}
 use Rattle.std.specs.Ordering.{int_eq}
 use Rattle.std.specs.Bool.{Decides}
 use Rattle.std.proofs.Common.{ap, rules}
 use Rattle.std.proofs.lemmas.Bool.Decides.{Decides-eqb, Decides-int_eq, Decides-and, Decides-like, same_from_decides}
 use Rattle.ams_value.specs.declared.val.Val.{Val}
-use Rattle.ams_value.specs.declared.val.Val.TheVariants as vals
 use Rattle.ams_value.specs.contracts.val.ValPartialEq.TheImpl as derived
 use Rattle.step_data.specs.declared.tip.Tip.{Tip}
 use Rattle.ams_value.specs.Values.{equals, same_truth}
+use Rattle.ams_value.specs.Laws.{truths_decide, values_decide}
 use Rattle.step_data.specs.Same.{all_same, same_point, same_frame, same_tip}
-
-pub bools_decide : (a b : Bool) → Decides (same_truth a b) (a ≡ b)
-bools_decide true true = (λ e. refl, λ e. refl)
-bools_decide true false = (λ e. cc, λ e. cc)
-bools_decide false true = (λ e. cc, λ e. cc)
-bools_decide false false = (λ e. refl, λ e. refl)
-
-pub values_decide : (a b : Val) → Decides (equals a b) (a ≡ b)
-unfolding equals
-values_decide (vals.Bool a) (vals.Bool b) =
-    Decides-like (same_truth a b) (λ e. ap vals.Bool e) (λ e. cc) (bools_decide a b)
-values_decide (vals.Bit a) (vals.Bit b) =
-    Decides-like (same_truth a b) (λ e. ap vals.Bit e) (λ e. cc) (bools_decide a b)
-values_decide (vals.Int a) (vals.Int b) =
-    Decides-like (int_eq a b) (λ e. ap vals.Int e) (λ e. cc) (Decides-int_eq a b)
-values_decide (vals.Real a) (vals.Real b) =
-    Decides-like (int_eq a b) (λ e. ap vals.Real e) (λ e. cc) (Decides-int_eq a b)
-values_decide (vals.Time a) (vals.Time b) =
-    Decides-like (int_eq a b) (λ e. ap vals.Time e) (λ e. cc) (Decides-int_eq a b)
-values_decide (vals.Enum a i) (vals.Enum b j) =
-    Decides-like (a == b && i == j) (λ e. cc) (λ e. (cc, cc))
-    (Decides-and (a == b) (i == j) (Decides-eqb a b) (Decides-eqb i j))
-values_decide (vals.Bits m a) (vals.Bits n b) =
-    Decides-like (m == n && a == b) (λ e. cc) (λ e. (cc, cc))
-    (Decides-and (m == n) (a == b) (Decides-eqb m n) (Decides-eqb a b))
-values_decide _ _ = (λ e. cc, λ e. cc)
 
 pub all_decide :
     {A : Type 0} (same : A → A → Bool) → ((a b : A) → Decides (same a b) (a ≡ b)) → (xs ys : List A) → Decides (all_same same xs ys) (xs ≡ ys)
@@ -66,7 +40,7 @@ tips_decide a b =
     (λ e. (ap (λ c. c.t) e, (ap (λ c. c.h) e, (ap (λ c. c.fresh) e, ap (λ c. c.x) e))))
     (Decides-and (a.t == b.t) (a.h == b.h && (same_truth a.fresh b.fresh && same_point a.x b.x)) (Decides-eqb a.t b.t)
     (Decides-and (a.h == b.h) (same_truth a.fresh b.fresh && same_point a.x b.x) (Decides-eqb a.h b.h)
-    (Decides-and (same_truth a.fresh b.fresh) (same_point a.x b.x) (bools_decide a.fresh b.fresh) (points_decide a.x b.x))))
+    (Decides-and (same_truth a.fresh b.fresh) (same_point a.x b.x) (truths_decide a.fresh b.fresh) (points_decide a.x b.x))))
 
 -- the derived `==` of values
 pub derived_decides : (a b : Val) → Decides (derived.eq-value.it a b) (a ≡ b)

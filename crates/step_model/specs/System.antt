@@ -67,6 +67,8 @@ pub record System : Type 0 where
   pub settle : List Val → ℕ → SetKind → List Element → List ℤ → Result (List ℤ) Cause
   -- under a frame: the branch of each choice at a time and these values
   pub choose : List Val → ℕ → ChooseKind → List ℤ → Result (List ℕ) Cause
+  -- the digital side before the start: each signal has its initial value
+  pub unstarted : Digital
   -- each process runs once up to its wait, by these values of the unknowns
   pub start : List ℤ → CycleOutcome
   -- the cycle at a time and a delta, by these values of the unknowns; true where DOMAIN becomes TIME_DOMAIN in it
@@ -137,6 +139,7 @@ idle =
       trial = λ frame tip s. Ok (record { x = tip.x; err = 0 });
       settle = λ frame t set breaks x. Ok x;
       choose = λ frame t kind x. Ok [];
+      unstarted = blank_digital;
       start = λ x. nothing_runs blank_digital;
       cycle = λ d t n x to_time. nothing_runs (record d { time = t; timed = to_time });
       next_time = λ d. None;

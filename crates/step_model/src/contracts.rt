@@ -1,9 +1,10 @@
-ghost use Rattle.std.specs.Prelude.{◌≡◌, ◌≢◌, ℕ, ◌+◌, ◌≤◌, ◌<◌, ◌||◌, ◌++◌, min, true, false, length, All, IsTrue, OnOk, OnErr, IfOk, IfSome, IsErr, Ok};
+ghost use Rattle.std.specs.Prelude.{◌≡◌, ◌≢◌, ℕ, ◌≤◌, ◌<◌, ◌||◌, ◌++◌, true, false, length, All, IsTrue, OnOk, OnErr, IfOk, IfSome, IsErr, Ok};
 ghost use Rattle.step_data.specs.declared.outcome.Refusal.{Refusal};
 ghost use Rattle.step_data.specs.declared.outcome.Ran.TheVariants.{Refused};
 ghost use Rattle.step_model.specs.System.{System, attempt as attempt_of, idle};
 ghost use Rattle.step_model.specs.Kernel.{KernelState, stage_after, cycle_of, AddsFront};
 ghost use Rattle.step_model.specs.declared.kernel_stage.KernelStage.TheVariants.{Unstarted, Going, Ended, Lost};
+ghost use Rattle.step_model.specs.Counts.{greatest_count, more};
 ghost use Rattle.step_model.specs.Printing.{CanPrint};
 ghost use Rattle.step_model.specs.Answers.{trial_answer, trial_point, settled_answer, settled_value, CanStep, IsStep};
 
@@ -60,7 +61,7 @@ pub trait Stepper<D: Design> {
         ensures answer { result ≡ trial_answer ((D.system (part self.old)).trial frame.now tip.now s) }
         ensures point { out.new ≡ trial_point tip.now.x ((D.system (part self.old)).trial frame.now tip.now s) }
         ensures length { length out.new ≡ (D.system (part self.old)).unknowns }
-        ensures count { count self.new ≡ min (count self.old + 1) 18446744073709551615 }
+        ensures count { count self.new ≡ more (count self.old) }
         ensures part { part self.new ≡ part self.old };
 
     /// The attempt from the tip.
@@ -70,7 +71,7 @@ pub trait Stepper<D: Design> {
         requires room { length out.old.x ≡ (D.system (part self.old)).unknowns }
         ensures value { out.new ≡ attempt_of (D.system (part self.old)) frame.now tip.now }
         ensures length { length out.new.x ≡ (D.system (part self.old)).unknowns }
-        ensures count { count self.new ≡ min (count self.old + 1) 18446744073709551615 }
+        ensures count { count self.new ≡ more (count self.old) }
         ensures part { part self.new ≡ part self.old };
 
     /// The solution at one time, from the values in `x`. Where it is refused, `x` stays.
@@ -110,7 +111,7 @@ pub trait Stepper<D: Design> {
         ensures part { part self.new ≡ part self.old };
 
     /// The count is a number of 64 bits.
-    ghost bounded: { (s : Self) → count s ≤ 18446744073709551615 };
+    ghost bounded: { (s : Self) → count s ≤ greatest_count };
 }
 
 /// The digital side: its cycles are functions of its state, of part 0 of the named design. After a refusal or want of memory
@@ -169,6 +170,7 @@ pub trait Kernel<D: Design> {
     fn frame(&self, out: &mut Frame)
         requires { length out.old ≡ (D.system 0).frame_len }
         ensures value { (state self.now).stage ≡ Going → out.new ≡ (D.system 0).frame (state self.now).digital }
+        ensures first { (state self.now).stage ≡ Unstarted → out.new ≡ (D.system 0).frame (D.system 0).unstarted }
         ensures fits { IsTrue ((D.system 0).is_frame out.new) }
         ensures length { length out.new ≡ (D.system 0).frame_len };
 
