@@ -15,6 +15,7 @@ mod val;
 mod value_type;
 
 pub use apply::{binary, ranges_give_values, results_are_typed, unary};
+pub use compare::equal;
 pub use convert::{integer_from_real, real_from_integer};
 pub use fault::ValFault;
 pub use logic::decided;
