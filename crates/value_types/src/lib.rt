@@ -2,10 +2,9 @@
 //! proved and does nothing when it runs.
 #![tactic(auto)]
 
-ghost use Rattle.value_types.specs.Typing.{ReadValuesAreTyped, ValuesAreTyped};
+ghost use Rattle.value_types.specs.Typing.{ValuesAreTyped};
 
 /// The value of an expression is of the expression's type, and in its range.
 pub fn values_are_typed()
-    ensures whole { ValuesAreTyped }
-    ensures read { ReadValuesAreTyped }
+    ensures { ValuesAreTyped }
 {}
