@@ -1,19 +1,19 @@
 -- Each kind of statement, opened once.
-use Rattle.std.proofs.Common.{◌≡◌, refl, ap, sym, ◌∙◌, ℕ, zero, suc, List, [], ◌∷◌}
+use Rattle.std.proofs.Common.{refl, ap, sym, ◌∙◌, ℕ, suc, List, ◌∷◌}
 use Rattle.std.specs.Prelude.{None}
 use Rattle.flat_expr.specs.declared.statement.Severity.TheVariants.{Failure}
-use Rattle.flat_expr.specs.declared.statement.Statement.{Statement, out-Statement}
+use Rattle.flat_expr.specs.declared.statement.Statement.{out-Statement}
 use Rattle.flat_expr.specs.declared.statement.Statement.TheOpen.{Statement-F}
 use Rattle.flat_expr.specs.declared.statement.Statement.TheViews.{out-roll-Statement}
 use Rattle.flat_expr.specs.declared.statement.Statement.TheVariants.{rolls-Null, rolls-Loop, rolls-Wait, rolls-Exit, rolls-Report}
-use Rattle.cycle_meaning.specs.Work.{Work, Layer, again}
-use Rattle.cycle_meaning.specs.World.{Place, Local}
+use Rattle.cycle_meaning.specs.Task.{Task, Layer, again}
+use Rattle.cycle_meaning.specs.World.{Context, Local}
 use Rattle.cycle_meaning.specs.Statements.{executed}
 use Rattle.cycle_meaning.specs.Processes.{Stop, run, next_of, after_step}
 use Rattle.cycle_meaning.specs.Counting.{StatementsCount}
 
 -- the run behind a statement that begins, by its layer
-abbrev begun : ℕ → Place → Local → List Work → Layer → Stop
+abbrev begun : ℕ → Context → Local → List Task → Layer → Stop
 begun n here l rest layer = after_step (run n here) (executed here l rest layer)
 
 pub counts : StatementsCount

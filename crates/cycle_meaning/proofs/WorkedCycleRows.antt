@@ -1,7 +1,7 @@
 -- Small cycles, by computation.
 use Rattle.std.proofs.Common.{refl}
 use Rattle.ams_value.specs.Values.{equals}
-use Rattle.cycle_meaning.specs.Work.{behind}
+use Rattle.cycle_meaning.specs.Task.{behind}
 use Rattle.cycle_meaning.specs.Cycles.{waiting_at, resumes, run_all, cycle}
 use Rattle.cycle_meaning.specs.Worked.{WorkedCycles}
 

@@ -1,4 +1,4 @@
-pub mod Work
+pub mod Task
 pub mod World
 pub mod Statements
 pub mod Processes

@@ -1,12 +1,13 @@
 -- A statement of a process (IEEE 1076, clause 10; break statement: IEEE 1076.1). Expressions are evaluated in the order in
 -- which they are written, and the first fault is the process's refusal.
-use Rattle.std.specs.Prelude.{ℕ, ◌+◌, ◌-◌, Bool, true, false, not, ◌&&◌, ◌||◌, nat_eq, nat_lt, nat_le, ℤ, pos, negsuc, int_lt, if◌then◌else◌, List, [], ◌∷◌, ◌++◌, Option, Some, None, Result, Ok, Err}
+use Rattle.std.specs.Prelude.{ℕ, ◌-◌, Bool, true, false, not, ◌&&◌, ◌||◌, ℤ, pos, negsuc, int_lt, if◌then◌else◌, List, [], ◌∷◌, ◌++◌, Option, Some, None, Result, Ok, Err}
 use Rattle.std.specs.List.{slice_get, slice_set, list_any}
+use Rattle.message_codes.specs.Codes.{range, failure, double_break}
+use Rattle.fix_core.specs.Passes.{◌>>=◌}
 use Rattle.ams_value.specs.declared.val.Val.{Val}
 use Rattle.ams_value.specs.declared.val.Val.TheVariants as val
-use Rattle.ams_value.specs.Values.{equals}
+use Rattle.ams_value.specs.Values.{equals, is_true, units_of, ticks_of}
 use Rattle.flat_expr.specs.declared.expr.FlatExpr.{FlatExpr}
-use Rattle.flat_expr.specs.declared.expr.SignalName.{SignalName}
 use Rattle.flat_expr.specs.declared.expr.Direction.{Direction}
 use Rattle.flat_expr.specs.declared.expr.Direction.TheVariants.{To, Downto}
 use Rattle.flat_expr.specs.declared.subtype.Constraint.{Constraint}
@@ -23,21 +24,21 @@ use Rattle.flat_expr.specs.declared.statement.Severity.TheVariants as severity
 use Rattle.flat_expr.specs.declared.statement.Statement.{Statement}
 use Rattle.flat_expr.specs.declared.statement.Statement.TheOpen.{Statement-F}
 use Rattle.flat_design.specs.declared.objects.Signal.{Signal}
-use Rattle.flat_design.specs.declared.objects.Objects.{Objects}
-use Rattle.waveform.specs.declared.trans.Trans.{Trans}
-use Rattle.waveform.specs.declared.trans.Mode.{Mode}
-use Rattle.waveform.specs.declared.trans.Mode.TheVariants.{Transport, Inertial}
+use Rattle.step_data.specs.declared.trans.Trans.{Trans}
+use Rattle.waveform.specs.declared.trans.DelayKind.{DelayKind}
+use Rattle.waveform.specs.declared.trans.DelayKind.TheVariants.{Transport, Inertial}
 use Rattle.waveform.specs.Projected.{projected}
 use Rattle.step_data.specs.declared.breaks.Element.{Element}
+use Rattle.step_data.specs.Selectors.{has_selector}
 use Rattle.step_data.specs.declared.event.Event.TheVariants as event
 use Rattle.step_data.specs.declared.outcome.Refusal.{Refusal}
-use Rattle.cycle_meaning.specs.Work.{Work, again, first_turn, Layer, statements, behind_loop, at_next_turn}
-use Rattle.cycle_meaning.specs.World.{World, Place, Local, refusal, ◌>>=◌, unless, evaluated, holds, is_true, time_after, pending_of, with_pending, with_event}
+use Rattle.cycle_meaning.specs.Task.{Task, again, first_turn, Layer, statements, behind_loop, at_next_turn}
+use Rattle.cycle_meaning.specs.World.{Context, Local, refusal, refused_where, evaluated, holds, time_after, pending_of, with_pending, with_event}
 
 -- what a statement leads to: the process goes on; it waits, at a numbered wait and until a time where one is given; or a refusal, after these events
 pub data Step : Type 0 where
-  goes_on : List Work → Local → Step
-  waits : ℕ → Option ℕ → List Work → Local → Step
+  goes_on : List Task → Local → Step
+  waits : ℕ → Option ℕ → List Task → Local → Step
   refuses : Local → Refusal → Step
 
 abbrev pub or_refuses : {A : Type 0} → Local → (A → Step) → Result A Refusal → Step
@@ -51,13 +52,9 @@ constraint_of (Some s) = s.constraint
 constraint_of None = Whole
 
 -- the delay of an element, 0 ps where none is written
-abbrev pub delay_of : Place → Local → Option FlatExpr → Result Val Refusal
+abbrev pub delay_of : Context → Local → Option FlatExpr → Result Val Refusal
 delay_of here l None = Ok (val.Time (pos 0))
 delay_of here l (Some e) = evaluated here l e
-
-abbrev pub ticks_of : Val → ℤ
-ticks_of (val.Time d) = d
-ticks_of _ = pos 0
 
 -- a delay is refused where it is negative, where it isn't above the one before, or, at the first element, where it is below the rejection limit
 abbrev pub bad_delay : Option ℤ → Option ℤ → ℤ → Bool
@@ -70,29 +67,29 @@ bad_delay limit (Some before) d = int_lt d (pos 0) || not (int_lt before d)
 
 -- the transactions of a waveform, and the delay of its first element. At each element the value and the delay are
 -- evaluated, and then tested: the value's subtype, the delay, the time
-unfoldable pub transactions : Place → Local → (Val → Bool) → Option ℤ → Option ℤ → List WaveElement → Result (List Trans) Refusal
+unfoldable pub transactions : Context → Local → (Val → Bool) → Option ℤ → Option ℤ → List WaveElement → Result (List Trans) Refusal
 transactions here l fits limit before [] = Ok []
 transactions here l fits limit before (e ∷ more) = do
   v ← evaluated here l e.value
   d ← delay_of here l e.delay
-  tested ← unless (not (fits v)) (refusal here 30) v
-  delay ← unless (bad_delay limit before (ticks_of d)) (refusal here 30) (ticks_of d)
+  tested ← refused_where (not (fits v)) (refusal here range) v
+  delay ← refused_where (bad_delay limit before (ticks_of d)) (refusal here range) (ticks_of d)
   at ← time_after here d
   later ← transactions here l fits limit (Some delay) more
   Ok (record { at = at; value = tested } ∷ later)
 
 -- the rejection limit that is written; a negative one is refused
-abbrev pub limit_of : Place → Local → DelayMechanism → Result (Option ℤ) Refusal
+abbrev pub limit_of : Context → Local → DelayMechanism → Result (Option ℤ) Refusal
 limit_of here l mechanism.Transport = Ok None
 limit_of here l (mechanism.Inertial None) = Ok None
 limit_of here l (mechanism.Inertial (Some e)) = do
   r ← evaluated here l e
-  limit ← unless (int_lt (ticks_of r) (pos 0)) (refusal here 30) (ticks_of r)
+  limit ← refused_where (int_lt (ticks_of r) (pos 0)) (refusal here range) (ticks_of r)
   Ok (Some limit)
 
-abbrev pub mode_of : DelayMechanism → Mode
-mode_of mechanism.Transport = Transport
-mode_of (mechanism.Inertial limit) = Inertial
+abbrev pub delay_kind_of : DelayMechanism → DelayKind
+delay_kind_of mechanism.Transport = Transport
+delay_kind_of (mechanism.Inertial limit) = Inertial
 
 abbrev pub magnitude : ℤ → ℕ
 magnitude (pos n) = n
@@ -105,11 +102,11 @@ rejection t None [] = 0
 rejection t None (first ∷ more) = first.at - t
 
 -- the projected waveform with the new transactions
-abbrev pub assigned : Place → ℕ → DelayMechanism → Option ℤ → List Trans → Local → Local
+abbrev pub assigned : Context → ℕ → DelayMechanism → Option ℤ → List Trans → Local → Local
 assigned here i m limit new l =
-    record l { world = with_pending here.objects i (projected (mode_of m) (rejection here.t limit new) (pending_of here.objects l.world i) new) l.world }
+    record l { world = with_pending here.objects i (projected (delay_kind_of m) (rejection here.t limit new) (pending_of here.objects l.world i) new) l.world }
 
-abbrev pub signal_assignment : Place → Local → ℕ → Constraint → DelayMechanism → List WaveElement → Result Local Refusal
+abbrev pub signal_assignment : Context → Local → ℕ → Constraint → DelayMechanism → List WaveElement → Result Local Refusal
 signal_assignment here l i constraint m wave = do
   limit ← limit_of here l m
   new ← transactions here l (λ v. lies_in constraint v && lies_in (constraint_of (slice_get here.objects.signals i)) v) limit None wave
@@ -117,10 +114,10 @@ signal_assignment here l i constraint m wave = do
 
 -- ---- variables, if, case and loops
 
-abbrev pub variable_assignment : Place → Local → ℕ → Constraint → FlatExpr → Result Local Refusal
+abbrev pub variable_assignment : Context → Local → ℕ → Constraint → FlatExpr → Result Local Refusal
 variable_assignment here l i constraint e = do
   v ← evaluated here l e
-  tested ← unless (not (lies_in constraint v)) (refusal here 30) v
+  tested ← refused_where (not (lies_in constraint v)) (refusal here range) v
   Ok (record l { variables = slice_set l.variables i tested })
 
 abbrev pub body_if : Bool → List Statement → Result (List Statement) Refusal → Result (List Statement) Refusal
@@ -128,7 +125,7 @@ body_if true body others = Ok body
 body_if false body others = others
 
 -- the statements of the first branch whose condition is TRUE, else those after `else`
-unfoldable pub branch_taken : Place → Local → List Branch → List Statement → Result (List Statement) Refusal
+unfoldable pub branch_taken : Context → Local → List Branch → List Statement → Result (List Statement) Refusal
 branch_taken here l [] last = Ok last
 branch_taken here l (b ∷ more) last =
     evaluated here l (out-Branch b).condition >>= (λ v. body_if (is_true v) (out-Branch b).body (branch_taken here l more last))
@@ -156,7 +153,7 @@ abbrev pub is_empty : Direction → ℤ → ℤ → Bool
 is_empty To left right = int_lt right left
 is_empty Downto left right = int_lt left right
 
-abbrev pub for_loop : Place → Local → ℕ → FlatExpr → Direction → FlatExpr → List Statement → Result (List Work) Refusal
+abbrev pub for_loop : Context → Local → ℕ → FlatExpr → Direction → FlatExpr → List Statement → Result (List Task) Refusal
 for_loop here l p left direction right body = do
   a ← evaluated here l left
   b ← evaluated here l right
@@ -170,42 +167,35 @@ number_of_severity severity.Warning = 1
 number_of_severity severity.Error = 2
 number_of_severity severity.Failure = 3
 
-abbrev pub with_report : Place → ℕ → List ℕ → Local → Local
+abbrev pub with_report : Context → ℕ → List ℕ → Local → Local
 with_report here s text l = record l { world = with_event (event.Report here.t here.n s text) l.world }
 
 -- a report of severity FAILURE is given, and then refuses the process
-abbrev pub reported : Place → Severity → List ℕ → List Work → Local → Step
-reported here severity.Failure text rest l = refuses (with_report here 3 text l) (refusal here 73)
+abbrev pub reported : Context → Severity → List ℕ → List Task → Local → Step
+reported here severity.Failure text rest l = refuses (with_report here (number_of_severity severity.Failure) text l) (refusal here failure)
 reported here s text rest l = goes_on rest (with_report here (number_of_severity s) text l)
 
-abbrev pub asserted : Bool → Step → List Work → Local → Step
+abbrev pub asserted : Bool → Step → List Task → Local → Step
 asserted true report rest l = goes_on rest l
 asserted false report rest l = report
-
-abbrev pub units_of : Val → ℤ
-units_of (val.Real r) = r
-units_of _ = pos 0
-
-abbrev pub has_selector : ℕ → List Element → Bool
-has_selector p elements = list_any (λ (e : Element). nat_eq e.selector p) elements
 
 abbrev pub executed_element : BreakElement → Val → Element
 executed_element e v = record { selector = e.selector; quantity = e.quantity; value = units_of v }
 
--- the executed elements, one after the other: the value, and then 74 where a second one has the selector in this cycle
-unfoldable pub elements_of : Place → Local → List Element → List BreakElement → Result (List Element) Refusal
+-- the executed elements, one after the other: the value, and then the refusal of a second one with the selector in this cycle
+unfoldable pub elements_of : Context → Local → List Element → List BreakElement → Result (List Element) Refusal
 elements_of here l earlier [] = Ok []
 elements_of here l earlier (e ∷ more) = do
   v ← evaluated here l e.value
-  made ← unless (has_selector e.selector earlier) (record { code = 74; detail = Some e.selector }) (executed_element e v)
+  made ← refused_where (has_selector e.selector earlier) (record { code = double_break; detail = Some e.selector }) (executed_element e v)
   later ← elements_of here l (earlier ++ made ∷ []) more
   Ok (made ∷ later)
 
-abbrev pub with_elements : Place → List Element → Local → Local
+abbrev pub with_elements : Context → List Element → Local → Local
 with_elements here made l =
     record l { world = with_event (event.Broke here.t here.n made) (record l.world { elements = l.world.elements ++ made; broke = true }) }
 
-abbrev pub break_by : Place → Local → List BreakElement → Bool → Result Local Refusal
+abbrev pub break_by : Context → Local → List BreakElement → Bool → Result Local Refusal
 break_by here l elements false = Ok l
 break_by here l elements true = do
   made ← elements_of here l l.world.elements elements
@@ -213,7 +203,7 @@ break_by here l elements true = do
 
 -- ---- wait
 
-abbrev pub timeout_of : Place → Local → Option FlatExpr → Result (Option ℕ) Refusal
+abbrev pub timeout_of : Context → Local → Option FlatExpr → Result (Option ℕ) Refusal
 timeout_of here l None = Ok None
 timeout_of here l (Some e) = do
   d ← evaluated here l e
@@ -222,10 +212,10 @@ timeout_of here l (Some e) = do
 
 -- ---- the statements by cases; `rest` is what is left behind the statement
 
-abbrev pub goes : List Work → Local → Step
+abbrev pub goes : List Task → Local → Step
 goes rest l = goes_on rest l
 
-abbrev pub executed : Place → Local → List Work → Layer → Step
+abbrev pub executed : Context → Local → List Task → Layer → Step
 executed here l rest (Statement-F.SignalAssignment i constraint m wave) = or_refuses l (goes rest) (signal_assignment here l i constraint m wave)
 executed here l rest (Statement-F.VariableAssignment i constraint e) = or_refuses l (goes rest) (variable_assignment here l i constraint e)
 executed here l rest (Statement-F.If branches last) =
@@ -234,7 +224,7 @@ executed here l rest (Statement-F.Case e alternatives) =
     or_refuses l (λ (v : Val). goes_on (statements (alternative_taken alternatives v) ++ rest) l) (evaluated here l e)
 executed here l rest (Statement-F.Loop condition body) = goes_on (again condition body ∷ rest) l
 executed here l rest (Statement-F.For p left direction right body) =
-    or_refuses l (λ (turn : List Work). goes_on (turn ++ rest) l) (for_loop here l p left direction right body)
+    or_refuses l (λ (turn : List Task). goes_on (turn ++ rest) l) (for_loop here l p left direction right body)
 executed here l rest (Statement-F.Exit condition) =
     or_refuses l (λ (b : Bool). goes_on (if b then behind_loop rest else rest) l) (holds here l condition)
 executed here l rest (Statement-F.Next condition) =

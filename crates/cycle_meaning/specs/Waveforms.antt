@@ -1,8 +1,8 @@
 -- Small assignments, worked out.
-use Rattle.std.specs.Prelude.{◌≡◌, ℕ, List, [], ◌∷◌, true, false}
+use Rattle.std.specs.Prelude.{◌≡◌, ℕ, [], ◌∷◌, true, false}
 use Rattle.ams_value.specs.declared.val.Val.TheVariants as val
-use Rattle.waveform.specs.declared.trans.Trans.{Trans}
-use Rattle.waveform.specs.declared.trans.Mode.TheVariants.{Inertial, Transport}
+use Rattle.step_data.specs.declared.trans.Trans.{Trans}
+use Rattle.waveform.specs.declared.trans.DelayKind.TheVariants.{Inertial, Transport}
 use Rattle.waveform.specs.Projected.{projected}
 
 -- a transaction of '0', and one of '1'

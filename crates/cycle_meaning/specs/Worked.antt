@@ -1,15 +1,13 @@
 -- Small cycles, worked out.
-use Rattle.std.specs.Prelude.{◌≡◌, pos, List, [], ◌∷◌, Some, None, true, false}
+use Rattle.std.specs.Prelude.{◌≡◌, pos, [], ◌∷◌, Some, None, true, false}
 use Rattle.ams_value.specs.declared.val.Val.TheVariants as val
 use Rattle.ams_value.specs.declared.value_type.ValueType.TheVariants as kind
 use Rattle.flat_expr.specs.declared.subtype.Constraint.TheVariants.{Whole}
-use Rattle.flat_design.specs.declared.objects.Signal.{Signal}
-use Rattle.flat_design.specs.declared.objects.Process.{Process}
 use Rattle.flat_design.specs.declared.objects.Objects.{Objects}
 use Rattle.flat_design.specs.Lists.{no_objects}
 use Rattle.step_data.specs.declared.event.Event.TheVariants as event
 use Rattle.step_data.specs.declared.outcome.Ran.TheVariants.{Done}
-use Rattle.step_model.specs.System.{ProcessState, Digital, Cycle}
+use Rattle.step_model.specs.System.{ProcessState, Digital}
 use Rattle.cycle_meaning.specs.Cycles.{cycle, next_time}
 
 -- a signal of type BIT with the initial value '0', a process that drives it and has no statement, and a threshold of 0.5 on quantity 0
@@ -31,7 +29,7 @@ pending =
       timed = true;
       kept = false ∷ [];
       signals = val.Bit false ∷ [];
-      queues = ((10000, val.Bit true) ∷ []) ∷ [];
+      queues = (record { at = 10000; value = val.Bit true } ∷ []) ∷ [];
       processes = asleep ∷ [];
       ramps = [];
       broken = [];
