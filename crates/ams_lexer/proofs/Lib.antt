@@ -8,5 +8,4 @@ pub mod AgainLaws
 pub mod LineLaws
 pub mod KindLaws
 pub mod TextLaws
-pub mod WordLaws
 pub mod OneCut

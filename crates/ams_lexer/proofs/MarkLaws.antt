@@ -276,6 +276,12 @@ finds_pair b c bs mark h = record {
   mark = record { text = sym (pair_text_0 b c mark h); longest = λ other after e. short other };
 }
 
+abbrev mark_pair : Mark → ℕ → Mark × ℕ
+mark_pair mark n = (mark, n)
+
+sized : (found : Mark × ℕ) (n : ℕ) → n ≡ found.1 → (found.0, n) ≡ found
+sized found n e = ap (mark_pair found.0) e
+
 finds_single : (b : ℕ) (bs : List ℕ) (mark : Mark) → single_mark b ≡ Some mark → ((other : Mark) (after : List ℕ) → (b ∷ bs) ≡ mark_text other ++ after → length (mark_text other) ≤ 1) → FindsMark (b ∷ bs) (mark, 1)
 finds_single b bs mark h longest = record {
   w = b ∷ [];
@@ -297,7 +303,7 @@ finds_in_two b c bs found None is h =
     λ other after t. fits_before b c bs (mark_text other) after t (short other) (none other)
     in
     let made = finds_single b (c ∷ bs) found.0 e.0 longest in
-    let same : (found.0, 1) ≡ found = let second = e.1 in cc in
+    let same = sized found 1 e.1 in
     subst (λ (f : Mark × ℕ). FindsMark (b ∷ c ∷ bs) f) same made
 
 pub finds_mark : (bs : List ℕ) (found : Mark × ℕ) → mark_at bs ≡ Some found → FindsMark bs found
@@ -306,7 +312,7 @@ finds_mark [] found h = absurd cc
 finds_mark (b ∷ []) found h =
     let e = of_length-some 1 (single_mark b) found h in
     let made = finds_single b [] found.0 e.0 (λ other after t. fits_one b (mark_text other) after t) in
-    let same : (found.0, 1) ≡ found = let second = e.1 in cc in
+    let same = sized found 1 e.1 in
     subst (λ (f : Mark × ℕ). FindsMark (b ∷ []) f) same made
 finds_mark (b ∷ c ∷ bs) found h = finds_in_two b c bs found (pair_mark b c) refl h
 

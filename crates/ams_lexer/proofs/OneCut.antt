@@ -1,11 +1,7 @@
 -- A text is cut in one way.
 use Rattle.std.proofs.Common.{◌≡◌, ℕ, ◌+◌, ◌≤◌, Bool, true, false, List, [], ◌∷◌, ◌++◌, length, take, drop, get_or, map, Option, Some, None, Result, Ok, Err, refl, sym, ap, subst, ◌∙◌, arith, inl, inr}
 use Rattle.std.proofs.lemmas.List.{take_at, drop_at, length-append}
-use Rattle.std.proofs.lemmas.Bool.{cases_Bool}
-use Rattle.std.proofs.lemmas.Slice.Eq.{bytes_eq-Decides}
 use Rattle.std.specs.Char.{to_ascii_lowercase}
-use Rattle.std.specs.Str.{bytes_eq}
-use Rattle.std.specs.List.{find}
 use Rattle.ams_token.specs.declared.word.Word.{Word}
 use Rattle.ams_token.specs.Spelling.{word_text}
 use Rattle.ams_lexer.specs.declared.pieces.Piece.{Piece}
@@ -25,8 +21,7 @@ use Rattle.ams_lexer.specs.Texts.{StopsAt, HasTokens, IsFaultOf, IsRefusal, faul
 use Rattle.ams_lexer.proofs.AgainLaws.{reading, again, again_fault}
 use Rattle.ams_lexer.proofs.KindLaws.{string_content, bits_content}
 use Rattle.ams_lexer.proofs.LineLaws.{takes_some}
-use Rattle.ams_token.proofs.ListedWords.{all_word_texts}
-use Rattle.ams_lexer.proofs.WordLaws.{find_word, find_word-text}
+use Rattle.ams_token.proofs.WordLaws.{find_word, found_text, word_found}
 
 -- ---- what a piece and its bytes say of the token
 
@@ -44,23 +39,6 @@ lexeme_by (p.Character c) w = Some (character c)
 lexeme_by p.Text w = Some (string (undoubled false (between 1 w)))
 lexeme_by p.Bits w = Some (bits (bit_text (bit_width (get_or w 0 0)) (between 2 w)))
 lexeme_by (p.Mark x) w = Some (mark x)
-
-found_text_in : (text : List ℕ) (xs : List Word) (x : Word) → find (λ y. bytes_eq text (word_text y)) xs ≡ Some x → word_text x ≡ text
-found_text_in text [] x h = absurd cc
-found_text_in text (y ∷ xs) x h =
-    elim (cases_Bool (bytes_eq text (word_text y))) [
-      | inl t ↦
-          let e : Some y ≡ Some x = rw t at h in
-          let same : y ≡ x = cc in
-          ap word_text (sym same) ∙ sym ((bytes_eq-Decides text (word_text y)).0 t)
-      | inr f ↦ let e : find (λ y. bytes_eq text (word_text y)) xs ≡ Some x = rw f at h in found_text_in text xs x e
-    ]
-
-found_text : (text : List ℕ) (x : Word) → find_word text ≡ Some x → word_text x ≡ text
-found_text text x h = found_text_in text all_word_texts x h
-
-word_found : (x : Word) (text : List ℕ) → word_text x ≡ text → find_word text ≡ Some x
-word_found x text h = ap find_word (sym h) ∙ find_word-text x
 
 no_word_if : (text : List ℕ) (o : Option Word) → find_word text ≡ o → ((x : Word) → word_text x ≡ text → ⊥) → o ≡ None
 no_word_if text None h none = refl

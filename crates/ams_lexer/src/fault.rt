@@ -3,6 +3,7 @@ ghost use Rattle.ams_lexer.specs.declared.fault.LexFault.TheVariants.{Memory};
 ghost use Rattle.ams_lexer.specs.Faults.{code_of};
 
 use ams_token::Place;
+use message_codes::{BAD_CHARACTER, BAD_LITERAL, NOT_ASCII, UNCLOSED_STRING};
 use std::alloc::{AllocError, AllocFailed};
 
 /// Why a text has no tokens, and where. Lines and columns are from 1, and each byte is one column.
@@ -17,15 +18,15 @@ pub enum LexFault {
 }
 
 impl LexFault {
-    /// The number of the refusal: 10, 11, 12 or 13. Want of memory refuses no text.
+    /// The number of the message that refuses the text. Want of memory refuses none.
     pub fn code(self) -> Option<u8>
         ensures { result ≡ code_of self }
     {
         match self {
-            LexFault::BadCharacter(_) => Some(10),
-            LexFault::BadLiteral(_) => Some(11),
-            LexFault::UnclosedString(_) => Some(12),
-            LexFault::NotAscii(_) => Some(13),
+            LexFault::BadCharacter(_) => Some(BAD_CHARACTER),
+            LexFault::BadLiteral(_) => Some(BAD_LITERAL),
+            LexFault::UnclosedString(_) => Some(UNCLOSED_STRING),
+            LexFault::NotAscii(_) => Some(NOT_ASCII),
             LexFault::Memory => None,
         }
     }

@@ -12,6 +12,3 @@ mod strings;
 
 pub use fault::LexFault;
 pub use lexer::{has_one_cut, lex};
-
-#[cfg(test)]
-mod tests;

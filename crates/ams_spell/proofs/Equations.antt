@@ -7,7 +7,7 @@ use Rattle.ams_token.specs.declared.word.Word.TheVariants as w
 use Rattle.ams_token.specs.declared.mark.Mark.TheVariants as m
 use Rattle.ams_tree.specs.declared.expression.Name.{Name}
 use Rattle.ams_tree.specs.declared.expression.Expr.{Expr}
-use Rattle.ams_tree.specs.declared.sequential.Delay.{Delay}
+use Rattle.ams_tree.specs.declared.sequential.DelayMechanism.{DelayMechanism}
 use Rattle.ams_tree.specs.declared.sequential.WaveformElement.{WaveformElement}
 use Rattle.ams_tree.specs.declared.sequential.Assertion.{Assertion}
 use Rattle.ams_tree.specs.declared.sequential.Report.{Report}
@@ -32,7 +32,7 @@ branch_spelling x body = fold-roll-Branch (List TokenKind) (List TokenKind) (Lis
 pub alternative_spelling : (xs : List Choice) (body : List Seq) → alternative_kinds (roll-Alternative (record { choices = xs; body = body })) ≡ choices_kinds xs ⊕ joined (map statement_kinds body)
 alternative_spelling xs body = fold-roll-Alternative (List TokenKind) (List TokenKind) (List TokenKind) statement_step alternative_step branch_step (record { choices = xs; body = body })
 
-pub signal_spelling : (target : Name) (how : Option Delay) (wave : List WaveformElement) → statement_kinds (seq.Signal target how wave) ≡ name target ⊕ mark m.LessEqual ⊕ optional delay_kinds how ⊕ waveform_kinds wave ⊕ mark m.Semicolon
+pub signal_spelling : (target : Name) (how : Option DelayMechanism) (wave : List WaveformElement) → statement_kinds (seq.Signal target how wave) ≡ name target ⊕ mark m.LessEqual ⊕ optional delay_kinds how ⊕ waveform_kinds wave ⊕ mark m.Semicolon
 signal_spelling target how wave = ap statement_kinds (sym (rolls-Signal target how wave)) ∙ fold-roll-Seq (List TokenKind) (List TokenKind) (List TokenKind) statement_step alternative_step branch_step (Seq-F.Signal target how wave)
 
 pub variable_spelling : (target : Name) (x : Expr) → statement_kinds (seq.Variable target x) ≡ name target ⊕ mark m.Assign ⊕ spelling x ⊕ mark m.Semicolon

@@ -6,8 +6,8 @@ use Rattle.ams_token.specs.declared.word.Word.TheVariants as w
 use Rattle.ams_token.specs.declared.mark.Mark.TheVariants as m
 use Rattle.ams_tree.specs.declared.expression.Name.{Name}
 use Rattle.ams_tree.specs.declared.expression.Expr.{Expr}
-use Rattle.ams_tree.specs.declared.sequential.Delay.{Delay}
-use Rattle.ams_tree.specs.declared.sequential.Delay.TheVariants as delay
+use Rattle.ams_tree.specs.declared.sequential.DelayMechanism.{DelayMechanism}
+use Rattle.ams_tree.specs.declared.sequential.DelayMechanism.TheVariants as delay
 use Rattle.ams_tree.specs.declared.sequential.WaveformElement.{WaveformElement}
 use Rattle.ams_tree.specs.declared.sequential.Assertion.{Assertion}
 use Rattle.ams_tree.specs.declared.sequential.Report.{Report}
@@ -38,7 +38,7 @@ on_kinds (x ∷ xs) = word w.On ⊕ name_list_kinds (x ∷ xs)
 abbrev pub when_kinds : Expr → List TokenKind
 when_kinds x = word w.When ⊕ spelling x
 
-abbrev pub delay_kinds : Delay → List TokenKind
+abbrev pub delay_kinds : DelayMechanism → List TokenKind
 delay_kinds (delay.Transport place) = word w.Transport
 delay_kinds (delay.Reject place x) = word w.Reject ⊕ spelling x ⊕ word w.Inertial
 delay_kinds (delay.Inertial place) = word w.Inertial

@@ -10,6 +10,3 @@ mod parts;
 mod statements;
 
 pub use call::{spell, spell_concurrent, spell_declaration, spell_statement};
-
-#[cfg(test)]
-mod tests;

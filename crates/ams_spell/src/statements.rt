@@ -9,23 +9,23 @@ ghost use Rattle.ams_spell.specs.Statements as spec;
 use crate::parts::{Spell, put_behind, put_mark, put_optional, put_separated, put_word};
 use ams_token::{Mark, TokenKind, Word};
 use ams_tree::{
-    Assertion, BreakElement, Choice, Delay, Expr, Iteration, Name, Report, WaveformElement,
+    Assertion, BreakElement, Choice, DelayMechanism, Expr, Iteration, Name, Report, WaveformElement,
 };
 use sqlite_items::Items;
 use std::alloc::AllocError;
 
-impl Spell for Delay {
+impl Spell for DelayMechanism {
     ghost kinds = { spec.delay_kinds };
 
     fn spell(&self, out: &mut Items<TokenKind>) -> Result<(), AllocError> {
         match self {
-            Delay::Transport(_) => put_word(out, Word::Transport),
-            Delay::Reject(_, limit) => {
+            DelayMechanism::Transport(_) => put_word(out, Word::Transport),
+            DelayMechanism::Reject(_, limit) => {
                 put_word(out, Word::Reject)?;
                 limit.spell(out)?;
                 put_word(out, Word::Inertial)
             }
-            Delay::Inertial(_) => put_word(out, Word::Inertial),
+            DelayMechanism::Inertial(_) => put_word(out, Word::Inertial),
         }
     }
 }
@@ -169,7 +169,7 @@ pub fn put_when(out: &mut Items<TokenKind>, condition: &Option<Expr>) -> Result<
 pub fn put_signal(
     out: &mut Items<TokenKind>,
     target: &Name,
-    delay: &Option<Delay>,
+    delay: &Option<DelayMechanism>,
     wave: &Items<WaveformElement>,
 ) -> Result<(), AllocError>
     ensures { OnOk result (out.new ≡ out.old ++ (name target.now ⊕ mark m.LessEqual ⊕ optional spec.delay_kinds delay.now ⊕ spec.waveform_kinds wave.now ⊕ mark m.Semicolon)) }

@@ -1,3 +1,4 @@
 pub mod TableLaws
 pub mod Places
 pub mod Listed
+pub mod WordLaws

@@ -8,8 +8,8 @@ use Rattle.ams_token.specs.declared.mark.Mark.TheVariants as m
 use Rattle.ams_tree.specs.declared.expression.Name.{Name}
 use Rattle.ams_tree.specs.declared.expression.Number.{Number}
 use Rattle.ams_tree.specs.declared.expression.Literal.{Literal}
-use Rattle.ams_tree.specs.declared.expression.Unary.{Unary}
-use Rattle.ams_tree.specs.declared.expression.Binary.{Binary}
+use Rattle.ams_tree.specs.declared.expression.UnaryOperator.{UnaryOperator}
+use Rattle.ams_tree.specs.declared.expression.BinaryOperator.{BinaryOperator}
 use Rattle.ams_tree.specs.declared.expression.Attribute.{Attribute}
 use Rattle.ams_tree.specs.declared.expression.Attribute.TheVariants as attr
 use Rattle.ams_tree.specs.declared.expression.Attribute.TheVariants.{rolls-Event, rolls-Dot, rolls-Reference, rolls-Above, rolls-Ramp}
@@ -39,10 +39,10 @@ attributed_spelling x a = ap spelling (sym (rolls-Attribute x a)) ∙ fold-roll-
 pub paren_spelling : (p : Place) (x : Expr) → spelling (e.Paren p x) ≡ parenthesized (spelling x)
 paren_spelling p x = ap spelling (sym (rolls-Paren p x)) ∙ fold-roll-Expr (List TokenKind) (List TokenKind) attribute_step expr_step (Expr-F.Paren p x)
 
-pub unary_spelling : (op : Unary) (p : Place) (x : Expr) → spelling (e.Unary op p x) ≡ unary_kind op ∷ spelling x
+pub unary_spelling : (op : UnaryOperator) (p : Place) (x : Expr) → spelling (e.Unary op p x) ≡ unary_kind op ∷ spelling x
 unary_spelling op p x = ap spelling (sym (rolls-Unary op p x)) ∙ fold-roll-Expr (List TokenKind) (List TokenKind) attribute_step expr_step (Expr-F.Unary op p x)
 
-pub binary_spelling : (op : Binary) (x y : Expr) → spelling (e.Binary op x y) ≡ spelling x ++ binary_kind op ∷ spelling y
+pub binary_spelling : (op : BinaryOperator) (x y : Expr) → spelling (e.Binary op x y) ≡ spelling x ++ binary_kind op ∷ spelling y
 binary_spelling op x y = ap spelling (sym (rolls-Binary op x y)) ∙ fold-roll-Expr (List TokenKind) (List TokenKind) attribute_step expr_step (Expr-F.Binary op x y)
 
 pub event_spelling : attribute_spelling attr.Event ≡ kind.Name 0 ∷ []

@@ -5,8 +5,8 @@ use Rattle.ams_token.specs.declared.word.Word.{Word}
 use Rattle.ams_token.specs.declared.word.Word.TheVariants as w
 use Rattle.ams_token.specs.declared.mark.Mark.TheVariants as m
 use Rattle.ams_tree.specs.declared.expression.Name.{Name}
-use Rattle.ams_tree.specs.declared.expression.Binary.{Binary}
-use Rattle.ams_tree.specs.declared.expression.Binary.TheVariants as binary
+use Rattle.ams_tree.specs.declared.expression.BinaryOperator.{BinaryOperator}
+use Rattle.ams_tree.specs.declared.expression.BinaryOperator.TheVariants as binary
 use Rattle.ams_tree.specs.declared.expression.Expr.{Expr}
 use Rattle.ams_tree.specs.declared.expression.Expr.TheVariants as e
 use Rattle.ams_tree.specs.Terminals.{word}
@@ -21,7 +21,7 @@ use Rattle.expr_spell.proofs.KindOf.{word_is}
 use Rattle.expr_spell.proofs.Tokens.{name_is, number_is, literal_is, multiplying_is, adding_is, shifting_is, relating_is, sign_is, prefix_is}
 
 -- a binary operation, operand by operand
-linked : (op : Binary) (x y : Expr) → spelling (e.Binary op x y) ≡ (spelling x ++ binary_kind op ∷ []) ++ spelling y
+linked : (op : BinaryOperator) (x y : Expr) → spelling (e.Binary op x y) ≡ (spelling x ++ binary_kind op ∷ []) ++ spelling y
 linked op x y = binary_spelling op x y ∙ sym (append_assoc (spelling x) (binary_kind op ∷ []) (spelling y))
 
 module _ (allowed : Bool) (inner : Rule Expr) (h : Writes [] spelling inner) where
@@ -93,11 +93,11 @@ module _ (allowed : Bool) (inner : Rule Expr) (h : Writes [] spelling inner) whe
   unfolding G.rel
   rel = then_ shift (λ left. or_ (then_ (token_ binary_kind relating_is) (λ op. then_ (part shift) (λ x. ends (linked op left x)))) (ends refl))
 
-  once : (x : Word) (op : Binary) (left : Expr) → binary_kind op ≡ kind.Word x → Writes (spelling left) spelling (G.once allowed inner (word x) op left)
+  once : (x : Word) (op : BinaryOperator) (left : Expr) → binary_kind op ≡ kind.Word x → Writes (spelling left) spelling (G.once allowed inner (word x) op left)
   unfolding G.once
   once x op left is = then_ (token_ (λ _. binary_kind op) (λ t p e. is ∙ sym (word_is x t p e))) (λ _. then_ (part rel) (λ y. ends (linked op left y)))
 
-  chain : (x : Word) (op : Binary) (left : Expr) → binary_kind op ≡ kind.Word x → Writes (spelling left) spelling (G.chain allowed inner (word x) op left)
+  chain : (x : Word) (op : BinaryOperator) (left : Expr) → binary_kind op ≡ kind.Word x → Writes (spelling left) spelling (G.chain allowed inner (word x) op left)
   unfolding G.chain
   chain x op left is = then_ (once x op left is) (λ first. again {h = λ y. binary_kind op ∷ spelling y} (λ z y. binary_spelling op z y)
       (then_ (token_ (λ _. binary_kind op) (λ t p e. is ∙ sym (word_is x t p e))) (λ _. part rel)))

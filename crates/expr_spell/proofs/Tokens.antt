@@ -9,8 +9,8 @@ use Rattle.ams_token.specs.declared.mark.Mark.TheVariants as m
 use Rattle.ams_tree.specs.declared.expression.Name.{Name}
 use Rattle.ams_tree.specs.declared.expression.Number.{Number}
 use Rattle.ams_tree.specs.declared.expression.Literal.{Literal}
-use Rattle.ams_tree.specs.declared.expression.Unary.{Unary}
-use Rattle.ams_tree.specs.declared.expression.Binary.{Binary}
+use Rattle.ams_tree.specs.declared.expression.UnaryOperator.{UnaryOperator}
+use Rattle.ams_tree.specs.declared.expression.BinaryOperator.{BinaryOperator}
 use Rattle.ams_tree.specs.Terminals.{name_in, name_of, number_in, number_of, literal_in, literal_of, multiplying_in, multiplying, adding_in, adding, shifting_in, shifting, relating_in, relating, sign_in, sign, prefix_in, prefix}
 use Rattle.expr_spell.specs.Spelling.{number_kind, literal_kind, unary_kind, binary_kind}
 
@@ -41,7 +41,7 @@ literal_is t x e = go t.kind t.place e
     go (kind.Bits n) p e = cc
     go _ p e = cc
 
-pub multiplying_is : (t : Token) (op : Binary) → multiplying t ≡ Some op → binary_kind op ≡ t.kind
+pub multiplying_is : (t : Token) (op : BinaryOperator) → multiplying t ≡ Some op → binary_kind op ≡ t.kind
 unfolding multiplying
 multiplying_is t op e = go t.kind e
   where
@@ -52,7 +52,7 @@ multiplying_is t op e = go t.kind e
     go (kind.Word w.Rem) e = cc
     go _ e = cc
 
-pub adding_is : (t : Token) (op : Binary) → adding t ≡ Some op → binary_kind op ≡ t.kind
+pub adding_is : (t : Token) (op : BinaryOperator) → adding t ≡ Some op → binary_kind op ≡ t.kind
 unfolding adding
 adding_is t op e = go t.kind e
   where
@@ -62,7 +62,7 @@ adding_is t op e = go t.kind e
     go (kind.Mark m.Ampersand) e = cc
     go _ e = cc
 
-pub shifting_is : (t : Token) (op : Binary) → shifting t ≡ Some op → binary_kind op ≡ t.kind
+pub shifting_is : (t : Token) (op : BinaryOperator) → shifting t ≡ Some op → binary_kind op ≡ t.kind
 unfolding shifting
 shifting_is t op e = go t.kind e
   where
@@ -75,7 +75,7 @@ shifting_is t op e = go t.kind e
     go (kind.Word w.Ror) e = cc
     go _ e = cc
 
-pub relating_is : (t : Token) (op : Binary) → relating t ≡ Some op → binary_kind op ≡ t.kind
+pub relating_is : (t : Token) (op : BinaryOperator) → relating t ≡ Some op → binary_kind op ≡ t.kind
 unfolding relating
 relating_is t op e = go t.kind e
   where
@@ -88,7 +88,7 @@ relating_is t op e = go t.kind e
     go (kind.Mark m.GreaterEqual) e = cc
     go _ e = cc
 
-pub sign_is : (t : Token) (op : Unary × Place) → sign t ≡ Some op → unary_kind op.0 ≡ t.kind
+pub sign_is : (t : Token) (op : UnaryOperator × Place) → sign t ≡ Some op → unary_kind op.0 ≡ t.kind
 unfolding sign
 sign_is t op e = go t.kind t.place e
   where
@@ -97,7 +97,7 @@ sign_is t op e = go t.kind t.place e
     go (kind.Mark m.Minus) p e = cc
     go _ p e = cc
 
-pub prefix_is : (t : Token) (op : Unary × Place) → prefix t ≡ Some op → unary_kind op.0 ≡ t.kind
+pub prefix_is : (t : Token) (op : UnaryOperator × Place) → prefix t ≡ Some op → unary_kind op.0 ≡ t.kind
 unfolding prefix
 prefix_is t op e = go t.kind t.place e
   where

@@ -1,5 +1,6 @@
 -- The kinds of the tokens that spell an expression.
 use Rattle.std.specs.Prelude.{List, [], ◌∷◌, ◌++◌, Option, Some, None}
+use Rattle.ams_token.specs.declared.names.TheConstants.{EVENT_NUMBER, DOT_NUMBER, ABOVE_NUMBER, RAMP_NUMBER}
 use Rattle.ams_token.specs.declared.token.TokenKind.{TokenKind}
 use Rattle.ams_token.specs.declared.token.TokenKind.TheVariants as kind
 use Rattle.ams_token.specs.declared.word.Word.TheVariants as w
@@ -8,10 +9,10 @@ use Rattle.ams_tree.specs.declared.expression.NumberValue.{NumberValue}
 use Rattle.ams_tree.specs.declared.expression.NumberValue.TheVariants as value
 use Rattle.ams_tree.specs.declared.expression.LiteralValue.{LiteralValue}
 use Rattle.ams_tree.specs.declared.expression.LiteralValue.TheVariants as content
-use Rattle.ams_tree.specs.declared.expression.Unary.{Unary}
-use Rattle.ams_tree.specs.declared.expression.Unary.TheVariants as unary
-use Rattle.ams_tree.specs.declared.expression.Binary.{Binary}
-use Rattle.ams_tree.specs.declared.expression.Binary.TheVariants as binary
+use Rattle.ams_tree.specs.declared.expression.UnaryOperator.{UnaryOperator}
+use Rattle.ams_tree.specs.declared.expression.UnaryOperator.TheVariants as unary
+use Rattle.ams_tree.specs.declared.expression.BinaryOperator.{BinaryOperator}
+use Rattle.ams_tree.specs.declared.expression.BinaryOperator.TheVariants as binary
 use Rattle.ams_tree.specs.declared.expression.Attribute.{Attribute}
 use Rattle.ams_tree.specs.declared.expression.Expr.{Expr}
 use Rattle.ams_tree.specs.declared.expression.Attribute.TheOpen.{Expr-F, Attribute-F}
@@ -27,13 +28,13 @@ literal_kind (content.Char c) = kind.Char c
 literal_kind (content.Str n) = kind.Str n
 literal_kind (content.Bits n) = kind.Bits n
 
-abbrev pub unary_kind : Unary → TokenKind
+abbrev pub unary_kind : UnaryOperator → TokenKind
 unary_kind unary.Plus = kind.Mark m.Plus
 unary_kind unary.Minus = kind.Mark m.Minus
 unary_kind unary.Abs = kind.Word w.Abs
 unary_kind unary.Not = kind.Word w.Not
 
-abbrev pub binary_kind : Binary → TokenKind
+abbrev pub binary_kind : BinaryOperator → TokenKind
 binary_kind binary.And = kind.Word w.And
 binary_kind binary.Or = kind.Word w.Or
 binary_kind binary.Xor = kind.Word w.Xor
@@ -68,11 +69,11 @@ times (Some rise) fall = parenthesized (rise ++ optional (λ x. kind.Mark m.Comm
 
 -- one level of an attribute, with the kinds of each expression in its place; the names that the grammar knows go by number
 abbrev pub attribute_step : Attribute-F (List TokenKind) (List TokenKind) → List TokenKind
-attribute_step Attribute-F.Event = kind.Name 0 ∷ []
-attribute_step Attribute-F.Dot = kind.Name 1 ∷ []
+attribute_step Attribute-F.Event = kind.Name EVENT_NUMBER ∷ []
+attribute_step Attribute-F.Dot = kind.Name DOT_NUMBER ∷ []
 attribute_step Attribute-F.Reference = kind.Word w.Reference ∷ []
-attribute_step (Attribute-F.Above x) = kind.Name 2 ∷ parenthesized x
-attribute_step (Attribute-F.Ramp rise fall) = kind.Name 3 ∷ times rise fall
+attribute_step (Attribute-F.Above x) = kind.Name ABOVE_NUMBER ∷ parenthesized x
+attribute_step (Attribute-F.Ramp rise fall) = kind.Name RAMP_NUMBER ∷ times rise fall
 
 -- one level of an expression
 abbrev pub expr_step : Expr-F (List TokenKind) (List TokenKind) → List TokenKind

@@ -2,7 +2,7 @@ ghost use Rattle.std.specs.Prelude.{◌≡◌};
 ghost use Rattle.expr_spell.specs.Spelling as spec;
 
 use ams_token::{Mark, TokenKind, Word};
-use ams_tree::{Binary, LiteralValue, NumberValue, Unary};
+use ams_tree::{BinaryOperator, LiteralValue, NumberValue, UnaryOperator};
 
 pub fn number_kind(value: NumberValue) -> TokenKind
     ensures { result ≡ spec.number_kind value }
@@ -24,46 +24,46 @@ pub fn literal_kind(value: LiteralValue) -> TokenKind
     }
 }
 
-pub fn unary_kind(op: Unary) -> TokenKind
+pub fn unary_kind(op: UnaryOperator) -> TokenKind
     ensures { result ≡ spec.unary_kind op }
 {
     match op {
-        Unary::Plus => TokenKind::Mark(Mark::Plus),
-        Unary::Minus => TokenKind::Mark(Mark::Minus),
-        Unary::Abs => TokenKind::Word(Word::Abs),
-        Unary::Not => TokenKind::Word(Word::Not),
+        UnaryOperator::Plus => TokenKind::Mark(Mark::Plus),
+        UnaryOperator::Minus => TokenKind::Mark(Mark::Minus),
+        UnaryOperator::Abs => TokenKind::Word(Word::Abs),
+        UnaryOperator::Not => TokenKind::Word(Word::Not),
     }
 }
 
-pub fn binary_kind(op: Binary) -> TokenKind
+pub fn binary_kind(op: BinaryOperator) -> TokenKind
     ensures { result ≡ spec.binary_kind op }
 {
     match op {
-        Binary::And => TokenKind::Word(Word::And),
-        Binary::Or => TokenKind::Word(Word::Or),
-        Binary::Xor => TokenKind::Word(Word::Xor),
-        Binary::Xnor => TokenKind::Word(Word::Xnor),
-        Binary::Nand => TokenKind::Word(Word::Nand),
-        Binary::Nor => TokenKind::Word(Word::Nor),
-        Binary::Equal => TokenKind::Mark(Mark::Equal),
-        Binary::NotEqual => TokenKind::Mark(Mark::NotEqual),
-        Binary::Less => TokenKind::Mark(Mark::Less),
-        Binary::LessEqual => TokenKind::Mark(Mark::LessEqual),
-        Binary::Greater => TokenKind::Mark(Mark::Greater),
-        Binary::GreaterEqual => TokenKind::Mark(Mark::GreaterEqual),
-        Binary::ShiftLeftLogical => TokenKind::Word(Word::Sll),
-        Binary::ShiftRightLogical => TokenKind::Word(Word::Srl),
-        Binary::ShiftLeftArithmetic => TokenKind::Word(Word::Sla),
-        Binary::ShiftRightArithmetic => TokenKind::Word(Word::Sra),
-        Binary::RotateLeft => TokenKind::Word(Word::Rol),
-        Binary::RotateRight => TokenKind::Word(Word::Ror),
-        Binary::Add => TokenKind::Mark(Mark::Plus),
-        Binary::Subtract => TokenKind::Mark(Mark::Minus),
-        Binary::Concat => TokenKind::Mark(Mark::Ampersand),
-        Binary::Multiply => TokenKind::Mark(Mark::Star),
-        Binary::Divide => TokenKind::Mark(Mark::Slash),
-        Binary::Mod => TokenKind::Word(Word::Mod),
-        Binary::Rem => TokenKind::Word(Word::Rem),
-        Binary::Power => TokenKind::Mark(Mark::DoubleStar),
+        BinaryOperator::And => TokenKind::Word(Word::And),
+        BinaryOperator::Or => TokenKind::Word(Word::Or),
+        BinaryOperator::Xor => TokenKind::Word(Word::Xor),
+        BinaryOperator::Xnor => TokenKind::Word(Word::Xnor),
+        BinaryOperator::Nand => TokenKind::Word(Word::Nand),
+        BinaryOperator::Nor => TokenKind::Word(Word::Nor),
+        BinaryOperator::Equal => TokenKind::Mark(Mark::Equal),
+        BinaryOperator::NotEqual => TokenKind::Mark(Mark::NotEqual),
+        BinaryOperator::Less => TokenKind::Mark(Mark::Less),
+        BinaryOperator::LessEqual => TokenKind::Mark(Mark::LessEqual),
+        BinaryOperator::Greater => TokenKind::Mark(Mark::Greater),
+        BinaryOperator::GreaterEqual => TokenKind::Mark(Mark::GreaterEqual),
+        BinaryOperator::ShiftLeftLogical => TokenKind::Word(Word::Sll),
+        BinaryOperator::ShiftRightLogical => TokenKind::Word(Word::Srl),
+        BinaryOperator::ShiftLeftArithmetic => TokenKind::Word(Word::Sla),
+        BinaryOperator::ShiftRightArithmetic => TokenKind::Word(Word::Sra),
+        BinaryOperator::RotateLeft => TokenKind::Word(Word::Rol),
+        BinaryOperator::RotateRight => TokenKind::Word(Word::Ror),
+        BinaryOperator::Add => TokenKind::Mark(Mark::Plus),
+        BinaryOperator::Subtract => TokenKind::Mark(Mark::Minus),
+        BinaryOperator::Concat => TokenKind::Mark(Mark::Ampersand),
+        BinaryOperator::Multiply => TokenKind::Mark(Mark::Star),
+        BinaryOperator::Divide => TokenKind::Mark(Mark::Slash),
+        BinaryOperator::Mod => TokenKind::Word(Word::Mod),
+        BinaryOperator::Rem => TokenKind::Word(Word::Rem),
+        BinaryOperator::Power => TokenKind::Mark(Mark::DoubleStar),
     }
 }

@@ -2,7 +2,7 @@
 
 use crate::spell_expr;
 use ams_token::{Integer, Mark, Place, TokenKind, Word};
-use ams_tree::{Attribute, Binary, Expr, Name, Number, NumberValue};
+use ams_tree::{Attribute, BinaryOperator, Expr, Name, Number, NumberValue};
 use sqlite_items::{Boxed, Items};
 use std::alloc::{AllocError, Global};
 use std::test::Fail;
@@ -59,7 +59,7 @@ fn spells_a_call(rt: HostRuntime) -> Result<(), Fail> {
     let right = Boxed::new(alloc, five())?;
     let mut arguments = Items::new(alloc);
     arguments.push(five())?;
-    arguments.push(Expr::Binary(Binary::Mod, left, right))?;
+    arguments.push(Expr::Binary(BinaryOperator::Mod, left, right))?;
     let spelled = spell_expr(alloc, &Expr::Call(x(), arguments))?;
     let modulo = TokenKind::Word(Word::Mod);
     let wanted = [X, OPEN, FIVE, COMMA, X, modulo, FIVE, CLOSE];

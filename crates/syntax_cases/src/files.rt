@@ -1,9 +1,9 @@
 //! Whole design files, there and back.
 
+use crate::parts::count;
 use ams_lexer::lex;
 use ams_parser::parse;
 use ams_spell::spell;
-use ams_token::{Token, TokenKind};
 use parse_steps::ParseFault;
 use std::alloc::Global;
 
@@ -16,14 +16,6 @@ fn unfolded(alloc: Global, row: &str) -> Option<Vec<u8>> {
     Some(bytes)
 }
 
-fn is_spelled(tokens: &[Token], kinds: &[TokenKind]) -> bool {
-    tokens.len() == kinds.len()
-        && tokens
-            .iter()
-            .zip(kinds.iter())
-            .all(|(token, kind)| token.kind == *kind)
-}
-
 /// What a design file is read as: how many tokens spell its tree. None where its tokens can't be told, or where the tree
 /// isn't spelled by the kinds of the tokens that it was read from.
 pub fn read_file(alloc: Global, row: &str) -> Option<Result<usize, ParseFault>> {
@@ -34,8 +26,5 @@ pub fn read_file(alloc: Global, row: &str) -> Option<Result<usize, ParseFault>> 
         Err(fault) => return Some(Err(fault)),
     };
     let kinds = spell(alloc, &file).ok()?;
-    if !is_spelled(tokens.list.as_slice(), kinds.as_slice()) {
-        return None;
-    }
-    Some(Ok(kinds.len()))
+    count(tokens.list.as_slice(), kinds.as_slice())
 }

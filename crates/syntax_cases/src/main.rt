@@ -1,13 +1,15 @@
 //! Reads texts, one a line, and prints what the parser of their kind answers to their tokens.
 //!
-//! A row is `expression AT DEPTH TEXT` or `file TEXT`, where a backslash stands for a line feed.
+//! A row is `expression AT DEPTH TEXT`, `declaration TEXT`, `statement TEXT`, `concurrent TEXT` or `file TEXT`; in a file's
+//! text a backslash stands for a line feed. All but an expression are spelled again: the number is that of the tokens.
 #![tactic(auto)]
 
 mod files;
+mod parts;
 
 use ams_lexer::lex;
 use parse_expr::expression;
-use parse_steps::ParseFault;
+use parse_steps::{MOST_LEVELS, ParseFault};
 use std::alloc::Global;
 use std::io;
 
@@ -19,7 +21,7 @@ fn read_expression(alloc: Global, row: &str) -> Option<Result<usize, ParseFault>
     let at = at.parse::<usize>().ok()?;
     let depth = depth.parse::<u32>().ok()?;
     let tokens = lex(alloc, text.as_bytes()).ok()?;
-    if at > tokens.list.len() || depth > 64 {
+    if at > tokens.list.len() || depth > MOST_LEVELS {
         return None;
     }
     match expression(alloc, &tokens, at, depth) {
@@ -32,6 +34,9 @@ fn read(alloc: Global, line: &str) -> Option<Result<usize, ParseFault>> {
     let (kind, row) = line.split_once(' ')?;
     match kind {
         "expression" => read_expression(alloc, row),
+        "declaration" => parts::read_declaration(alloc, row),
+        "statement" => parts::read_statement(alloc, row),
+        "concurrent" => parts::read_concurrent(alloc, row),
         "file" => files::read_file(alloc, row),
         _ => None,
     }
