@@ -4,6 +4,7 @@
 ghost use Rattle.std.specs.Prelude.{◌≡◌, ◌≤◌, ◌<◌, ◌↔◌, ◌||◌, ◌&&◌, ℕ, not, length, replicate, Some, None, IfOk, OnOk, OnErr, IsNone, IfSome, slice_index_or, slice_set};
 ghost use Rattle.std.specs.List.{All, Contains};
 ghost use Rattle.std.specs.BTreeSet.{contains};
+ghost use Rattle.step_data.specs.Times.{earliest_of};
 ghost use Rattle.agenda.specs.Times.{pair_cmp, is_key, IsLeast};
 
 use fix_core::Tick;
@@ -95,6 +96,7 @@ impl Agenda {
 
     /// The least time.
     pub fn least(&self) -> Option<Tick>
+        ensures earliest { result ≡ earliest_of self.now }
         ensures none { IsNone result ↔ All (λ time. time ≡ None) self.now }
         ensures least { IfSome result (λ t. IsLeast t self.now) }
     {

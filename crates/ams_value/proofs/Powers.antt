@@ -4,17 +4,18 @@ use Rattle.std.proofs.lemmas.Int.{ints}
 use Rattle.std.specs.Prelude.{unsigned_abs, Result}
 use Rattle.fix_core.specs.declared.NumFault.{NumFault}
 use Rattle.fix_core.specs.Fixed.{one, product_of}
+use Rattle.ams_value.specs.Ranges.{most_integer}
 use Rattle.ams_value.specs.declared.fault.ValFault.{ValFault}
 use Rattle.ams_value.specs.declared.fault.ValFault.TheVariants.{Range, Overflow}
 use Rattle.ams_value.specs.declared.val.Val.{Val}
 use Rattle.ams_value.specs.declared.val.Val.TheVariants.{Int, Real}
 use Rattle.ams_value.specs.Values.{integer_product, powers, integer_powers, real_powers, with_exponent, power_value, integer_result, real_result}
 
-pub product_is : (a b : ℤ) → unsigned_abs (a *ℤ b) ≤ 2147483647 → integer_product a b ≡ Ok (a *ℤ b)
+pub product_is : (a b : ℤ) → unsigned_abs (a *ℤ b) ≤ most_integer → integer_product a b ≡ Ok (a *ℤ b)
 unfolding integer_product
 product_is a b h = grind arith
 
-pub product_past : (a b : ℤ) → 2147483647 < unsigned_abs (a *ℤ b) → integer_product a b ≡ Err Overflow
+pub product_past : (a b : ℤ) → most_integer < unsigned_abs (a *ℤ b) → integer_product a b ≡ Err Overflow
 unfolding integer_product
 product_past a b h = grind arith
 

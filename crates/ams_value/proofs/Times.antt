@@ -9,12 +9,14 @@ use Rattle.std.specs.Int.{int_rem_euclid}
 use Rattle.fix_core.specs.Rounding.{rnd, nearest, signs_differ}
 use Rattle.fix_core.specs.Fixed.{one}
 use Rattle.fix_core.specs.Laws.{rnd_is, nearest_high, unsigned_abs-signed}
+use Rattle.fix_core.specs.Units.{units_per_one, most_ticks}
+use Rattle.ams_value.specs.Ranges.{most_integer}
 use Rattle.ams_value.specs.declared.fault.ValFault.{ValFault}
 use Rattle.ams_value.specs.declared.fault.ValFault.TheVariants.{Range, Overflow, DivideByZero}
 use Rattle.ams_value.specs.declared.val.Val.{Val}
 use Rattle.ams_value.specs.Values.{integer_ranged, time_ranged, divided_by, time_by_real, time_over_real, integer_quotient, time_quotient, integer_modulus, integer_remainder, modulus, integer_of}
 
-pub time_overflows : (z : ℤ) → 1000000000000000000 < unsigned_abs z → time_ranged z ≡ Err Overflow
+pub time_overflows : (z : ℤ) → most_ticks < unsigned_abs z → time_ranged z ≡ Err Overflow
 unfolding time_ranged
 time_overflows z h = grind arith
 
@@ -22,12 +24,12 @@ time_overflows z h = grind arith
 pub product_past : (t r : ℤ) → 2000000000000000000000000000000 < unsigned_abs (t *ℤ r) → time_by_real t r ≡ Err Overflow
 unfolding time_by_real
 product_past t r h =
-    let q : ℕ = nearest (unsigned_abs (t *ℤ r)) 1000000000000 in
-    let high : 2 * unsigned_abs (t *ℤ r) < 2 * (q * 1000000000000) + 1000000000000 = nearest_high (unsigned_abs (t *ℤ r)) 1000000000000 (omega arith) in
+    let q : ℕ = nearest (unsigned_abs (t *ℤ r)) units_per_one in
+    let high : 2 * unsigned_abs (t *ℤ r) < 2 * (q * units_per_one) + units_per_one = nearest_high (unsigned_abs (t *ℤ r)) units_per_one (omega arith) in
     let size : unsigned_abs (rnd (t *ℤ r) one) ≡ q = rw (rnd_is (t *ℤ r) one) (unsigned_abs-signed (signs_differ (t *ℤ r) one) q) in
     time_overflows (rnd (t *ℤ r) one) (omega (arith, high, size))
 
-pub product_is : (t r : ℤ) → time_ranged (rnd (t *ℤ r) (pos 1000000000000)) ≡ time_by_real t r
+pub product_is : (t r : ℤ) → time_ranged (rnd (t *ℤ r) one) ≡ time_by_real t r
 unfolding time_by_real
 product_is t r = refl
 
@@ -45,7 +47,7 @@ pub over_none : (t r : ℤ) → r ≡ pos 0 → time_over_real t r ≡ Err Divid
 unfolding time_over_real
 over_none t r e = by_zero r (time_ranged (rnd (t *ℤ one) r)) (rw e refl)
 
-pub over_some : (t r : ℤ) → 0 < unsigned_abs r → time_ranged (rnd (t *ℤ pos 1000000000000) r) ≡ time_over_real t r
+pub over_some : (t r : ℤ) → 0 < unsigned_abs r → time_ranged (rnd (t *ℤ one) r) ≡ time_over_real t r
 unfolding time_over_real
 over_some t r h = sym (by_some r (time_ranged (rnd (t *ℤ one) r)) h)
 
@@ -90,10 +92,10 @@ pub fits_long : (z : ℤ) → unsigned_abs z < 9223372036854775808 → FitsSigne
 fits_long z h = fits_signed_from_abs w64 z (omega arith)
 
 -- a result by way of the numbers that it is computed from
-pub scaled_by : (t r p q : ℤ) → p ≡ t *ℤ r → q ≡ rnd p (pos 1000000000000) → time_ranged q ≡ time_by_real t r
-scaled_by t r p q e f = ap time_ranged (f ∙ ap (λ z. rnd z (pos 1000000000000)) e) ∙ product_is t r
+pub scaled_by : (t r p q : ℤ) → p ≡ t *ℤ r → q ≡ rnd p one → time_ranged q ≡ time_by_real t r
+scaled_by t r p q e f = ap time_ranged (f ∙ ap (λ z. rnd z one) e) ∙ product_is t r
 
-pub divided_over : (t r p q : ℤ) → p ≡ t *ℤ pos 1000000000000 → q ≡ rnd p r → 0 < unsigned_abs r → time_ranged q ≡ time_over_real t r
+pub divided_over : (t r p q : ℤ) → p ≡ t *ℤ one → q ≡ rnd p r → 0 < unsigned_abs r → time_ranged q ≡ time_over_real t r
 divided_over t r p q e f h = ap time_ranged (f ∙ ap (λ z. rnd z r) e) ∙ over_some t r h
 
 pub quotient_by : (a b q : ℤ) → q ≡ int_div a b → 0 < unsigned_abs b → integer_ranged q ≡ integer_quotient a b
@@ -127,17 +129,17 @@ parts_some t i h = sym (by_some i (time_ranged (int_div t i)) h)
 
 pub ruleset integers = (parts_none, parts_some, quotient_none, quotient_some, remainder_none, remainder_some, modulus_none, modulus_up, modulus_down)
 
-pub repeated_fits : (t i : ℤ) → unsigned_abs t ≤ 1000000000000000000 → unsigned_abs i ≤ 2147483648 → FitsSigned w128 (t *ℤ i)
+pub repeated_fits : (t i : ℤ) → unsigned_abs t ≤ most_ticks → unsigned_abs i ≤ 2147483648 → FitsSigned w128 (t *ℤ i)
 repeated_fits t i ht hi =
-    let most : unsigned_abs t * unsigned_abs i ≤ 1000000000000000000 * 2147483648 = mul-le (unsigned_abs t) (unsigned_abs i) 1000000000000000000 2147483648 ht hi in
+    let most : unsigned_abs t * unsigned_abs i ≤ most_ticks * 2147483648 = mul-le (unsigned_abs t) (unsigned_abs i) most_ticks 2147483648 ht hi in
     fits_wide (t *ℤ i) (rw (unsigned_abs-mul t i) (omega (arith, most)))
 
-pub integer_is : (r q : ℤ) → q ≡ rnd r one → unsigned_abs q ≤ 2147483647 → integer_of r ≡ Ok q
+pub integer_is : (r q : ℤ) → q ≡ rnd r one → unsigned_abs q ≤ most_integer → integer_of r ≡ Ok q
 unfolding integer_of
-integer_is r q e h = let le : unsigned_abs (rnd r one) ≤ 2147483647 = rw (← e) h in rw e (grind arith)
+integer_is r q e h = let le : unsigned_abs (rnd r one) ≤ most_integer = rw (← e) h in rw e (grind arith)
 
-pub integer_none : (r q : ℤ) → q ≡ rnd r one → 2147483647 < unsigned_abs q → integer_of r ≡ Err Range
+pub integer_none : (r q : ℤ) → q ≡ rnd r one → most_integer < unsigned_abs q → integer_of r ≡ Err Range
 unfolding integer_of
-integer_none r q e h = let lt : 2147483647 < unsigned_abs (rnd r one) = rw (← e) h in grind arith
+integer_none r q e h = let lt : most_integer < unsigned_abs (rnd r one) = rw (← e) h in grind arith
 
 pub ruleset reals = (integer_is, integer_none, fits_wide)

@@ -9,12 +9,14 @@ use Rattle.fix_core.specs.Passes.{and_then}
 use Rattle.fix_core.specs.Rounding.{rnd}
 use Rattle.fix_core.specs.Fixed.{one, sum_of, difference_of, product_of, quotient_of}
 use Rattle.fix_core.specs.Laws.{sum_in_range, difference_in_range, product_in_range, quotient_in_range}
+use Rattle.fix_core.specs.Units.{most_units, most_ticks}
+use Rattle.ams_value.specs.Ranges.{most_integer}
 use Rattle.ams_value.specs.declared.fault.ValFault.{ValFault}
 use Rattle.ams_value.specs.declared.fault.ValFault.TheVariants.{Range, Overflow, DivideByZero}
-use Rattle.ams_value.specs.declared.op.Op1.{Op1}
-use Rattle.ams_value.specs.declared.op.Op1.TheVariants.{Plus, Minus, Abs, Not}
-use Rattle.ams_value.specs.declared.op.Op2.{Op2}
-use Rattle.ams_value.specs.declared.op.Op2.TheVariants.{And, Or, Nand, Nor, Xor, Xnor, Equal, NotEqual, Less, LessEqual, Greater, GreaterEqual, Sll, Srl, Sla, Sra, Rol, Ror, Add, Subtract, Concat, Multiply, Divide, Mod, Rem, Power}
+use Rattle.ams_value.specs.declared.op.UnaryOperator.{UnaryOperator}
+use Rattle.ams_value.specs.declared.op.UnaryOperator.TheVariants.{Plus, Minus, Abs, Not}
+use Rattle.ams_value.specs.declared.op.BinaryOperator.{BinaryOperator}
+use Rattle.ams_value.specs.declared.op.BinaryOperator.TheVariants.{And, Or, Nand, Nor, Xor, Xnor, Equal, NotEqual, Less, LessEqual, Greater, GreaterEqual, Sll, Srl, Sla, Sra, Rol, Ror, Add, Subtract, Concat, Multiply, Divide, Mod, Rem, Power}
 use Rattle.ams_value.specs.declared.val.Val.{Val}
 use Rattle.ams_value.specs.declared.val.Val.TheVariants.{Bool as Boolean, Bit, Int, Real, Time, Bits}
 use Rattle.ams_value.specs.declared.value_type.ValueType.{ValueType}
@@ -35,37 +37,37 @@ is_of t w v i k e =
     let same : w ≡ v = cc in
     subst P same (record { within = i; typed = k })
 
-integer_in : (z : ℤ) → unsigned_abs z ≤ 2147483647 → integer_ranged z ≡ Ok (Int z)
+integer_in : (z : ℤ) → unsigned_abs z ≤ most_integer → integer_ranged z ≡ Ok (Int z)
 unfolding integer_ranged
 integer_in z h = grind arith
 
-integer_past : (z : ℤ) → 2147483647 < unsigned_abs z → integer_ranged z ≡ Err Overflow
+integer_past : (z : ℤ) → most_integer < unsigned_abs z → integer_ranged z ≡ Err Overflow
 unfolding integer_ranged
 integer_past z h = grind arith
 
-time_in : (z : ℤ) → unsigned_abs z ≤ 1000000000000000000 → time_ranged z ≡ Ok (Time z)
+time_in : (z : ℤ) → unsigned_abs z ≤ most_ticks → time_ranged z ≡ Ok (Time z)
 unfolding time_ranged
 time_in z h = grind arith
 
-time_past : (z : ℤ) → 1000000000000000000 < unsigned_abs z → time_ranged z ≡ Err Overflow
+time_past : (z : ℤ) → most_ticks < unsigned_abs z → time_ranged z ≡ Err Overflow
 unfolding time_ranged
 time_past z h = grind arith
 
 integer_typed : (z : ℤ) (v : Val) → integer_ranged z ≡ Ok v → IsOf (Some kind.Integer) v
 integer_typed z v e =
-    elim (cases_lt 2147483647 (unsigned_abs z)) [
+    elim (cases_lt most_integer (unsigned_abs z)) [
       | inl past ↦ absurd (no_value Overflow v (sym (integer_past z past) ∙ e))
       | inr le ↦ is_of (Some kind.Integer) (Int z) v le refl (sym (integer_in z le) ∙ e)
     ]
 
 time_typed : (z : ℤ) (v : Val) → time_ranged z ≡ Ok v → IsOf (Some kind.Time) v
 time_typed z v e =
-    elim (cases_lt 1000000000000000000 (unsigned_abs z)) [
+    elim (cases_lt most_ticks (unsigned_abs z)) [
       | inl past ↦ absurd (no_value Overflow v (sym (time_past z past) ∙ e))
       | inr le ↦ is_of (Some kind.Time) (Time z) v le refl (sym (time_in z le) ∙ e)
     ]
 
-real_typed : (r : Result ℤ NumFault) (v : Val) → ((y : ℤ) → r ≡ Ok y → unsigned_abs y ≤ 1000000000000000000000000) → real_result r ≡ Ok v → IsOf (Some kind.Real) v
+real_typed : (r : Result ℤ NumFault) (v : Val) → ((y : ℤ) → r ≡ Ok y → unsigned_abs y ≤ most_units) → real_result r ≡ Ok v → IsOf (Some kind.Real) v
 real_typed (Ok y) v range e = is_of (Some kind.Real) (Real y) v (range y refl) refl e
 real_typed (Err f) v range e = absurd (no_value _ v e)
 
@@ -82,7 +84,7 @@ all_ones-lt : (n x : ℕ) → all_ones n - x < 2 ^ n
 unfolding all_ones
 all_ones-lt n x = let some : 0 < 2 ^ n = power_pos n in omega arith
 
-bits-lt : (op : Op2) (n a b : ℕ) → a < 2 ^ n → b < 2 ^ n → bits_of op n a b < 2 ^ n
+bits-lt : (op : BinaryOperator) (n a b : ℕ) → a < 2 ^ n → b < 2 ^ n → bits_of op n a b < 2 ^ n
 bits-lt And n a b ha hb = omega (arith, and_le_l a b)
 bits-lt Or n a b ha hb = or_lt n a b ha hb
 bits-lt Nand n a b ha hb = all_ones-lt n _
@@ -94,7 +96,7 @@ bits-lt _ n a b ha hb = power_pos n
 vector_known : (m n : ℕ) → IsSome (logical_type (kind.BitVector m) (kind.BitVector n)) → logical_type (kind.BitVector m) (kind.BitVector n) ≡ Some (kind.BitVector m)
 vector_known m n k = grind arith
 
-logical_typed : (op : Op2) (a b v : Val) → Fit logical_type a b → logical_of op a b ≡ Ok v → IsOf (logical_type (type_of a) (type_of b)) v
+logical_typed : (op : BinaryOperator) (a b v : Val) → Fit logical_type a b → logical_of op a b ≡ Ok v → IsOf (logical_type (type_of a) (type_of b)) v
 unfolding logical_of
 logical_typed op (Boolean a) (Boolean b) v f e = is_of (Some kind.Boolean) (Boolean (truth_of op a b)) v tt refl e
 logical_typed op (Bit a) (Bit b) v f e = is_of (Some kind.Bit) (Bit (truth_of op a b)) v tt refl e
@@ -121,7 +123,7 @@ equality_known s t k = order_known s t k
 
 -- ---- shifts and concatenation
 
-shift_typed : (op : Op2) (a b v : Val) → Fit shift_type a b → shift_of op a b ≡ Ok v → IsOf (shift_type (type_of a) (type_of b)) v
+shift_typed : (op : BinaryOperator) (a b v : Val) → Fit shift_type a b → shift_of op a b ≡ Ok v → IsOf (shift_type (type_of a) (type_of b)) v
 unfolding shift_of
 shift_typed op (Bits n a) (Int (pos k)) v f e = is_of (Some (kind.BitVector n)) (Bits n (shifted op n k a)) v (f.left.0, shifted-lt op n k a f.left.1) refl e
 shift_typed op (Bits n a) (Int (negsuc k)) v f e = is_of (Some (kind.BitVector n)) (Bits n (shifted (opposite op) n (suc k) a)) v (f.left.0, shifted-lt (opposite op) n (suc k) a f.left.1) refl e
@@ -201,22 +203,22 @@ powers_in_range times unit a most products u h (suc (suc n)) y e =
     let last = last_step (λ p. times p a) (powers times unit a (suc n)) y e in
     products last.0 y last.1
 
-integer_product_in_range : (a b y : ℤ) → integer_product a b ≡ Ok y → unsigned_abs y ≤ 2147483647
+integer_product_in_range : (a b y : ℤ) → integer_product a b ≡ Ok y → unsigned_abs y ≤ most_integer
 integer_product_in_range a b y e =
-    elim (cases_lt 2147483647 (unsigned_abs (a *ℤ b))) [
+    elim (cases_lt most_integer (unsigned_abs (a *ℤ b))) [
       | inl past ↦ let f : integer_product a b ≡ Err Overflow = product_past a b past in absurd cc
       | inr le ↦ let same : a *ℤ b ≡ y = number_same (a *ℤ b) y (sym (product_is a b le) ∙ e) in rw same at le
     ]
 
-integer_powers_in_range : (a : ℤ) (n : ℕ) (y : ℤ) → unsigned_abs a ≤ 2147483647 → integer_powers a n ≡ Ok y → unsigned_abs y ≤ 2147483647
+integer_powers_in_range : (a : ℤ) (n : ℕ) (y : ℤ) → unsigned_abs a ≤ most_integer → integer_powers a n ≡ Ok y → unsigned_abs y ≤ most_integer
 unfolding integer_powers
-integer_powers_in_range a n y h e = powers_in_range integer_product (pos 1) a 2147483647 (λ p z q. integer_product_in_range p a z q) (omega arith) h n y e
+integer_powers_in_range a n y h e = powers_in_range integer_product (pos 1) a most_integer (λ p z q. integer_product_in_range p a z q) (omega arith) h n y e
 
-real_powers_in_range : (a : ℤ) (n : ℕ) (y : ℤ) → unsigned_abs a ≤ 1000000000000000000000000 → real_powers a n ≡ Ok y → unsigned_abs y ≤ 1000000000000000000000000
+real_powers_in_range : (a : ℤ) (n : ℕ) (y : ℤ) → unsigned_abs a ≤ most_units → real_powers a n ≡ Ok y → unsigned_abs y ≤ most_units
 unfolding real_powers
-real_powers_in_range a n y h e = powers_in_range product_of one a 1000000000000000000000000 (λ p z q. product_in_range p a z q) (omega arith) h n y e
+real_powers_in_range a n y h e = powers_in_range product_of one a most_units (λ p z q. product_in_range p a z q) (omega arith) h n y e
 
-integer_result_typed : (r : Result ℤ ValFault) (v : Val) → ((y : ℤ) → r ≡ Ok y → unsigned_abs y ≤ 2147483647) → integer_result r ≡ Ok v → IsOf (Some kind.Integer) v
+integer_result_typed : (r : Result ℤ ValFault) (v : Val) → ((y : ℤ) → r ≡ Ok y → unsigned_abs y ≤ most_integer) → integer_result r ≡ Ok v → IsOf (Some kind.Integer) v
 integer_result_typed (Ok y) v range e = is_of (Some kind.Integer) (Int y) v (range y refl) refl e
 integer_result_typed (Err f) v range e = absurd (no_value f v e)
 
@@ -264,7 +266,7 @@ not_typed (Bit a) v i k e = is_of (Some kind.Bit) _ v tt refl e
 not_typed (Bits n a) v i k e = is_of (Some (kind.BitVector n)) (Bits n (all_ones n - a)) v (i.0, all_ones-lt n a) refl e
 not_typed _ v i k e = absurd (search rules)
 
-unary_typed : (op : Op1) (a v : Val) → IsTypedUnary op a → unary_of op a ≡ Ok v → IsOf (unary_type op (type_of a)) v
+unary_typed : (op : UnaryOperator) (a v : Val) → IsTypedUnary op a → unary_of op a ≡ Ok v → IsOf (unary_type op (type_of a)) v
 unfolding unary_of
 unary_typed Plus a v f e = plus_typed a v f.operand f.known e
 unary_typed Minus a v f e = minus_typed a v f.operand f.known e
@@ -273,7 +275,7 @@ unary_typed Not a v f e = not_typed a v f.operand f.known e
 
 -- ---- operators with two operands
 
-binary_typed : (op : Op2) (a b v : Val) → IsTypedBinary op a b → binary_of op a b ≡ Ok v → IsOf (binary_type op (type_of a) (type_of b)) v
+binary_typed : (op : BinaryOperator) (a b v : Val) → IsTypedBinary op a b → binary_of op a b ≡ Ok v → IsOf (binary_type op (type_of a) (type_of b)) v
 unfolding binary_of
 binary_typed And a b v f e = logical_typed And a b v f e
 binary_typed Or a b v f e = logical_typed Or a b v f e
@@ -307,7 +309,7 @@ results_typed = record { unary = unary_typed; binary = binary_typed }
 
 -- ---- what the left operand decides
 
-truth_decided : (op : Op2) (a b c : Bool) → decided_truth op a ≡ Some c → truth_of op a b ≡ c
+truth_decided : (op : BinaryOperator) (a b c : Bool) → decided_truth op a ≡ Some c → truth_of op a b ≡ c
 truth_decided And true b c e = absurd cc
 truth_decided And false b c e = cc
 truth_decided Or true b c e = cc
@@ -322,14 +324,14 @@ kind_decided : (kind : Bool → Val) (o : Option Bool) (b : Bool) (v : Val) → 
 kind_decided kind (Some c) b v known e = let same : b ≡ c = known c refl in rw same (let done : kind c ≡ v = cc in ap Ok done)
 kind_decided kind None b v known e = absurd cc
 
-logical_decided : (op : Op2) (a b v : Val) → Fit logical_type a b → decided_by op a ≡ Some v → logical_of op a b ≡ Ok v
+logical_decided : (op : BinaryOperator) (a b v : Val) → Fit logical_type a b → decided_by op a ≡ Some v → logical_of op a b ≡ Ok v
 unfolding logical_of decided_by
 logical_decided op (Boolean a) (Boolean b) v f e = kind_decided Boolean (decided_truth op a) (truth_of op a b) v (λ c q. truth_decided op a b c q) e
 logical_decided op (Bit a) (Bit b) v f e = kind_decided Bit (decided_truth op a) (truth_of op a b) v (λ c q. truth_decided op a b c q) e
 logical_decided op (Bits m a) (Bits n b) v f e = absurd cc
 logical_decided op _ _ v f e = absurd (search (rules, f.known))
 
-not_logical : (op : Op2) (a v : Val) → ((x : Bool) → decided_truth op x ≡ None) → decided_by op a ≡ Some v → ⊥
+not_logical : (op : BinaryOperator) (a v : Val) → ((x : Bool) → decided_truth op x ≡ None) → decided_by op a ≡ Some v → ⊥
 unfolding decided_by
 not_logical op (Boolean a) v none e = let h : decided_truth op a ≡ None = none a in let g : same_kind Boolean None ≡ Some v = rw h at e in cc
 not_logical op (Bit a) v none e = let h : decided_truth op a ≡ None = none a in let g : same_kind Bit None ≡ Some v = rw h at e in cc

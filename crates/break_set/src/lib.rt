@@ -2,7 +2,8 @@
 #![tactic(auto)]
 
 ghost use Rattle.std.specs.Prelude.{IsTrue, ◌≡◌, ℕ, ◌↔◌, ◌++◌, ◌∷◌, [], Ok, Err, OnOk, OnErr};
-ghost use Rattle.break_set.specs.Breaks.{HasSelector, OnePerSelector, code_of};
+ghost use Rattle.step_data.specs.Selectors.{has_selector};
+ghost use Rattle.break_set.specs.Breaks.{OnePerSelector, code_of};
 
 use std::alloc::Global;
 use std::marker::Model;
@@ -18,12 +19,12 @@ pub enum AddFault {
 }
 
 impl AddFault {
-    /// The number under which the fault is reported; want of memory has none.
+    /// The number of the fault's message; want of memory has none.
     pub fn code(self) -> Option<u8>
         ensures { result ≡ code_of self }
     {
         match self {
-            AddFault::Double(_) => Some(74),
+            AddFault::Double(_) => Some(message_codes::DOUBLE_BREAK),
             AddFault::Memory => None,
         }
     }
@@ -59,7 +60,7 @@ impl BreakSet {
 
     /// Some element is for this selector.
     pub fn has(&self, selector: u32) -> bool
-        ensures { IsTrue result ↔ HasSelector selector self.now }
+        ensures { result ≡ has_selector selector self.now }
     {
         self.elements
             .as_slice()
@@ -70,7 +71,7 @@ impl BreakSet {
     /// Adds an element at the end.
     pub fn add(&mut self, element: Element) -> Result<(), AddFault>
         ensures ok { OnOk result (self.new ≡ self.old ++ element ∷ []) }
-        ensures double { (result ≡ Err (AddFault.Double element.selector)) ↔ HasSelector element.selector self.old }
+        ensures double { (result ≡ Err (AddFault.Double element.selector)) ↔ IsTrue (has_selector element.selector self.old) }
         ensures only_its_own { (selector : ℕ) → result ≡ Err (AddFault.Double selector) → selector ≡ element.selector }
         ensures err { OnErr result (self.new ≡ self.old) }
     {

@@ -2,7 +2,7 @@
 use Rattle.std.proofs.Common.{◌≡◌, ℕ, ◌+◌, ◌-◌, ◌<◌, ◌≤◌, List, length, get_or, inl, inr, sym, ◌∙◌, arith}
 use Rattle.std.proofs.lemmas.Bool.{cases_lt}
 use Rattle.std.proofs.lemmas.List.{get_or_default}
-use Rattle.waveform.specs.declared.trans.Trans.{Trans}
+use Rattle.step_data.specs.declared.trans.Trans.{Trans}
 
 abbrev pub RisesUpto : List Trans → ℕ → Type 0
 RisesUpto list n = (j k : ℕ) (d : Trans) → j < k → k < n → k < length list → (get_or list j d).at < (get_or list k d).at

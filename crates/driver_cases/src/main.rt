@@ -1,6 +1,6 @@
 //! Assigns the waveforms on standard input to drivers, and prints what is pending then.
 //!
-//! A line is a mode, a rejection limit and a semicolon, the pending transactions, a bar, and the new ones. A transaction
+//! A line is a kind of delay, a rejection limit and a semicolon, the pending transactions, a bar, and the new ones. A transaction
 //! is its time and its value 0 or 1 with a colon between.
 #![tactic(auto)]
 
@@ -11,7 +11,8 @@ use ams_value::Val;
 use anyhow::{Context, Result, bail};
 use fix_core::Tick;
 use std::alloc::{AllocError, Global};
-use waveform::{Driver, Mode, Trans};
+use step_data::Trans;
+use waveform::{DelayKind, Driver};
 
 /// Each time is later than the one before.
 fn are_rising(list: &[Trans]) -> bool
@@ -30,13 +31,13 @@ fn are_rising(list: &[Trans]) -> bool
 /// Assigns a waveform where there is one and its times rise.
 fn assign(
     driver: &mut Driver,
-    mode: Mode,
+    kind: DelayKind,
     reject: u64,
     new: &[Trans],
     start: Tick,
 ) -> Result<(), AllocError> {
     if !new.is_empty() && start.get() == 0 && are_rising(new) {
-        driver.assign(start, mode, reject, new)?;
+        driver.assign(start, kind, reject, new)?;
     }
     Ok(())
 }
@@ -69,19 +70,19 @@ fn text_of(alloc: Global, list: &[Trans]) -> Result<String, AllocError> {
 fn after(alloc: Global, line: &str) -> Result<String> {
     let (head, new) = line.split_once('|').context("a bar")?;
     let (words, old) = head.split_once(';').context("a semicolon")?;
-    let (mode, reject) = words.split_once(' ').context("a blank")?;
-    let mode = match mode {
-        "transport" => Mode::Transport,
-        "inertial" => Mode::Inertial,
-        _ => bail!("an unknown mode"),
+    let (kind, reject) = words.split_once(' ').context("a blank")?;
+    let kind = match kind {
+        "transport" => DelayKind::Transport,
+        "inertial" => DelayKind::Inertial,
+        _ => bail!("an unknown kind"),
     };
     let reject = reject.parse::<u64>().context("a rejection limit")?;
     let start = Tick::new(0).context("a time")?;
     let old = transactions(alloc, old)?;
     let new = transactions(alloc, new)?;
     let mut driver = Driver::new(alloc, Val::Bit(false));
-    assign(&mut driver, Mode::Transport, 0, old.as_slice(), start)?;
-    assign(&mut driver, mode, reject, new.as_slice(), start)?;
+    assign(&mut driver, DelayKind::Transport, 0, old.as_slice(), start)?;
+    assign(&mut driver, kind, reject, new.as_slice(), start)?;
     Ok(text_of(alloc, driver.pending().as_slice())?)
 }
 

@@ -4,6 +4,7 @@ use Rattle.std.specs.Prelude.{unsigned_abs, ◌*ℤ◌}
 use Rattle.std.proofs.lemmas.Int.{ints}
 use Rattle.std.proofs.lemmas.Bool.{cases_lt}
 use Rattle.std.proofs.Math.Nat.{eq-zero-or-pos, pow-suc, mul_assoc}
+use Rattle.fix_core.specs.Units.{units_per_one}
 use Rattle.fix_core.specs.declared.NumFault.{NumFault}
 use Rattle.fix_core.specs.Passes.{and_then, each}
 use Rattle.fix_core.specs.Fixed.{tenfold_of}
@@ -50,21 +51,21 @@ kept turns row done h e =
     let p : row ≡ done = cc in
     subst IsScaled p h
 
-power : (turns l m : ℕ) → m ≡ 10 * l → 1000000000000 ≤ 10 ^ suc turns * l → 1000000000000 ≤ 10 ^ turns * m
+power : (turns l m : ℕ) → m ≡ 10 * l → units_per_one ≤ 10 ^ suc turns * l → units_per_one ≤ 10 ^ turns * m
 power turns l m e h = rw (e, ← mul_assoc (10 ^ turns) 10 l, ← pow-suc 10 turns) h
 
-again : (turns : ℕ) (row done : List ℤ) → 0 < largest (coefficients row) → largest (coefficients row) < 1000000000000 → scaled (suc turns) row ≡ Ok done → and_then (scaled turns) (tenfold row) ≡ Ok done
+again : (turns : ℕ) (row done : List ℤ) → 0 < largest (coefficients row) → largest (coefficients row) < units_per_one → scaled (suc turns) row ≡ Ok done → and_then (scaled turns) (tenfold row) ≡ Ok done
 again turns row done some small e =
     let less : suc turns - 1 ≡ turns = omega arith in
     ap (λ (t : ℕ). and_then (scaled t) (tenfold row)) (sym less) ∙ sym (scaled_more (suc turns) row (omega arith) some small) ∙ e
 
-enough : (turns : ℕ) (row done : List ℤ) → 1000000000000 ≤ 10 ^ turns * largest (coefficients row) → scaled turns row ≡ Ok done → IsScaled done
+enough : (turns : ℕ) (row done : List ℤ) → units_per_one ≤ 10 ^ turns * largest (coefficients row) → scaled turns row ≡ Ok done → IsScaled done
 enough zero row done h e =
     let same : Ok row ≡ Ok done = sym (scaled_none row) ∙ e in
     let p : row ≡ done = cc in
     subst IsScaled p (inr (omega arith))
 enough (suc turns) row done h e =
-    elim (cases_lt (largest (coefficients row)) 1000000000000) [
+    elim (cases_lt (largest (coefficients row)) units_per_one) [
       | inl small ↦ elim (eq-zero-or-pos (largest (coefficients row))) [
         | inl none ↦ kept turns row done (inl none) e
         | inr some ↦

@@ -7,6 +7,7 @@ use Rattle.std.specs.Global.{Vec}
 use Rattle.std.specs.Vec.{with_items}
 use Rattle.lin_solve.specs.Entries.{items_of}
 use borrow.Rule.Slice.PartMut.{put_mid}
+use Rattle.fix_core.specs.Units.{units_per_one, most_units}
 use Rattle.fix_core.specs.declared.NumFault.{NumFault}
 use Rattle.fix_core.specs.declared.NumFault.TheVariants.{Overflow}
 use Rattle.fix_core.specs.Rounding.{nearest, rnd}
@@ -83,7 +84,7 @@ minus_row-zero (p ∷ ps) (a ∷ row) e all =
 
 pub ranged_is : (z d : ℤ) → ranged z ≡ Ok d → z ≡ d
 ranged_is z d e =
-    elim (cases_lt 1000000000000000000000000 (unsigned_abs z)) [ inl past ↦ let f : ranged z ≡ Err Overflow = ranged-overflows z past in cc | inr fits ↦ let f : ranged z ≡ Ok z = ranged-fits z fits in cc ]
+    elim (cases_lt most_units (unsigned_abs z)) [ inl past ↦ let f : ranged z ≡ Err Overflow = ranged-overflows z past in cc | inr fits ↦ let f : ranged z ≡ Ok z = ranged-fits z fits in cc ]
 
 pub tenfold-within : (a d : ℤ) → tenfold_of a ≡ Ok d → IsInRange d
 unfolding tenfold_of
@@ -180,22 +181,22 @@ pub ruleset substitutions = (substituted_end, substituted_no_product, substitute
 pub largest_rest : (xs : List ℤ) (i : ℕ) (x : ℤ) → i < length xs → x ≡ get_or xs i x → largest (drop i xs) ≡ max (unsigned_abs x) (largest (drop (i + 1) xs))
 largest_rest xs i x h r = rw (at_place xs i x h r) (largest_more x (drop (i + 1) xs))
 
-test_kept : (l : ℕ) → (l ≡ 0) ⊎ (1000000000000 ≤ l) → (nat_eq l 0 || nat_le 1000000000000 l) ≡ true
+test_kept : (l : ℕ) → (l ≡ 0) ⊎ (units_per_one ≤ l) → (nat_eq l 0 || nat_le units_per_one l) ≡ true
 test_kept l e = grind (arith, nat_tests)
 
-test_more : (l : ℕ) → 0 < l → l < 1000000000000 → (nat_eq l 0 || nat_le 1000000000000 l) ≡ false
+test_more : (l : ℕ) → 0 < l → l < units_per_one → (nat_eq l 0 || nat_le units_per_one l) ≡ false
 test_more l some small = grind (arith, nat_tests)
 
 pub scaled_none : (row : List ℤ) → scaled 0 row ≡ Ok row
 unfolding scaled
 scaled_none row = refl
 
-pub scaled_kept : (turns : ℕ) (row : List ℤ) → 0 < turns → (largest (coefficients row) ≡ 0) ⊎ (1000000000000 ≤ largest (coefficients row)) → scaled turns row ≡ Ok row
+pub scaled_kept : (turns : ℕ) (row : List ℤ) → 0 < turns → (largest (coefficients row) ≡ 0) ⊎ (units_per_one ≤ largest (coefficients row)) → scaled turns row ≡ Ok row
 unfolding scaled
 scaled_kept zero row h e = absurd (omega arith)
 scaled_kept (suc turns) row h e = rw (test_kept (largest (coefficients row)) e) refl
 
-pub scaled_more : (turns : ℕ) (row : List ℤ) → 0 < turns → 0 < largest (coefficients row) → largest (coefficients row) < 1000000000000 → scaled turns row ≡ and_then (scaled (turns - 1)) (tenfold row)
+pub scaled_more : (turns : ℕ) (row : List ℤ) → 0 < turns → 0 < largest (coefficients row) → largest (coefficients row) < units_per_one → scaled turns row ≡ and_then (scaled (turns - 1)) (tenfold row)
 unfolding scaled
 scaled_more zero row h some small = absurd (omega arith)
 scaled_more (suc turns) row h some small = let p : suc turns - 1 ≡ turns = omega arith in rw (test_more (largest (coefficients row)) some small, p) refl

@@ -2,6 +2,7 @@
 use Rattle.std.specs.Prelude.{ℕ, zero, suc, ◌+◌, ◌-◌, max, ℤ, pos, unsigned_abs, nat_eq, nat_le, nat_lt, ◌||◌, if◌then◌else◌, List, [], ◌∷◌, length, take, drop, map, slice_index_or, Result, Ok, Err}
 use Rattle.std.specs.List.{swap}
 use Rattle.fix_core.specs.declared.NumFault.{NumFault}
+use Rattle.fix_core.specs.Units.{units_per_one}
 use Rattle.fix_core.specs.Fixed.{tenfold_of, difference_of, product_of, quotient_of}
 use Rattle.fix_core.specs.Passes.{and_then, each}
 use Rattle.lin_solve.specs.declared.LinFault.{LinFault}
@@ -36,7 +37,7 @@ tenfold row = each tenfold_of row
 unfoldable pub scaled : ℕ → List ℤ → Result (List ℤ) NumFault
 scaled zero row = Ok row
 scaled (suc turns) row =
-    if nat_eq (largest (coefficients row)) 0 || nat_le 1000000000000 (largest (coefficients row)) then Ok row else and_then (scaled turns) (tenfold row)
+    if nat_eq (largest (coefficients row)) 0 || nat_le units_per_one (largest (coefficients row)) then Ok row else and_then (scaled turns) (tenfold row)
 
 abbrev pub scaled_all : List (List ℤ) → Result (List (List ℤ)) NumFault
 scaled_all rows = each (scaled 12) rows

@@ -11,12 +11,9 @@ ghost use Rattle.fix_core.specs.Passes.{answer};
 ghost use Rattle.lin_solve.specs.Entries.{items_of, IsRow};
 
 use ams_point::Point;
-use fix_core::{Fix, NumFault};
+use fix_core::{Fix, NumFault, UNITS_PER_ONE};
 use std::alloc::{AllocError, Global};
 use std::marker::Model;
-
-/// The units of 1.0.
-const ONE: u128 = 1_000_000_000_000;
 
 /// Why a system has no solution here.
 #[derive(Clone, Copy, Debug, PartialEq, Eq)]
@@ -28,13 +25,13 @@ pub enum LinFault {
 }
 
 impl LinFault {
-    /// The number under which the fault is reported.
+    /// The number of the fault's message.
     pub fn code(self) -> u8
         ensures { result ≡ code_of self }
     {
         match self {
-            LinFault::Singular(_) => 60,
-            LinFault::Overflow => 61,
+            LinFault::Singular(_) => message_codes::SINGULAR,
+            LinFault::Overflow => message_codes::SOLVER_OVERFLOW,
         }
     }
 }
@@ -180,7 +177,7 @@ fn scale(row: &mut [Fix], turns: u32) -> Result<(), NumFault>
         return Ok(());
     }
     let size = largest(&row[..row.len() - 1]);
-    if size == 0 || size >= ONE {
+    if size == 0 || size >= UNITS_PER_ONE {
         return Ok(());
     }
     tenfold(row)?;

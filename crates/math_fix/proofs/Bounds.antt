@@ -5,6 +5,7 @@ use Rattle.std.proofs.lemmas.Nat.{mul-le}
 use Rattle.std.proofs.Math.Nat.{pow-suc, pow-le-pow_right, le_refl}
 use Rattle.std.specs.Prelude.{unsigned_abs, FitsSigned}
 use Rattle.std.specs.Int.{w128}
+use Rattle.fix_core.specs.Units.{units_per_one, most_units}
 use Rattle.fix_core.specs.declared.NumFault.{NumFault}
 use Rattle.fix_core.specs.Rounding.{rnd}
 use Rattle.fix_core.specs.Fixed.{one, product_of}
@@ -15,12 +16,12 @@ pub turns_near : (x q : ℤ) → q ≡ rnd x (pos 6283185307180) → 2 * unsigne
 turns_near x q e = rw e (rnd-IsNearest x (pos 6283185307180) (omega arith)).near
 
 -- |t| and |f| are at most 1: so is the next term of exp
-pub exp_step-le : (t f : ℤ) (k : ℕ) → unsigned_abs t ≤ 1000000000000 → unsigned_abs f ≤ 1000000000000 → unsigned_abs (rnd (t *ℤ f) (pos (suc k * 1000000000000))) ≤ 1000000000000
+pub exp_step-le : (t f : ℤ) (k : ℕ) → unsigned_abs t ≤ units_per_one → unsigned_abs f ≤ units_per_one → unsigned_abs (rnd (t *ℤ f) (pos (suc k * units_per_one))) ≤ units_per_one
 exp_step-le t f k ht hf =
-    let product : unsigned_abs t * unsigned_abs f ≤ 1000000000000 * 1000000000000 = mul-le _ _ _ _ ht hf in
-    rnd-le (t *ℤ f) (pos (suc k * 1000000000000)) 1000000000000 (omega arith) (rw (unsigned_abs-mul t f) (omega (arith, product)))
+    let product : unsigned_abs t * unsigned_abs f ≤ units_per_one * units_per_one = mul-le _ _ _ _ ht hf in
+    rnd-le (t *ℤ f) (pos (suc k * units_per_one)) units_per_one (omega arith) (rw (unsigned_abs-mul t f) (omega (arith, product)))
 
-pub exp_term-le : (f : ℤ) (k : ℕ) → unsigned_abs f ≤ 1000000000000 → unsigned_abs (exp_term f k) ≤ 1000000000000
+pub exp_term-le : (f : ℤ) (k : ℕ) → unsigned_abs f ≤ units_per_one → unsigned_abs (exp_term f k) ≤ units_per_one
 unfolding exp_term
 exp_term-le f zero h = omega arith
 exp_term-le f (suc k) h = exp_step-le (exp_term f k) f k (exp_term-le f k h) h
@@ -61,15 +62,15 @@ next_term-le t r m d ht hr hd =
     let hu : unsigned_abs u ≤ m * 10000000000000 = rnd-le (t *ℤ r) one (m * 10000000000000) (omega arith) (rw (unsigned_abs-mul t r) (omega (arith, first))) in
     let second : unsigned_abs u * unsigned_abs r ≤ m * 10000000000000 * 3141592653590 = mul-le _ _ _ _ hu hr in
     let twice : m * 2 ≤ m * d = mul-le _ _ _ _ (le_refl m) hd in
-    let hv : unsigned_abs (rnd (u *ℤ r) (pos (d * 1000000000000))) ≤ 5 * m * 3141592653590 =
-    rnd-le (u *ℤ r) (pos (d * 1000000000000)) (5 * m * 3141592653590) (omega arith) (rw (unsigned_abs-mul u r) (omega (arith, second, twice))) in
+    let hv : unsigned_abs (rnd (u *ℤ r) (pos (d * units_per_one))) ≤ 5 * m * 3141592653590 =
+    rnd-le (u *ℤ r) (pos (d * units_per_one)) (5 * m * 3141592653590) (omega arith) (rw (unsigned_abs-mul u r) (omega (arith, second, twice))) in
     omega (arith, ints, hv)
 
 -- what stands between
-pub between-le : (t r : ℤ) → unsigned_abs t ≤ 1000000000000000000000 → unsigned_abs r ≤ 3141592653590 → unsigned_abs (rnd (t *ℤ r) (pos 1000000000000)) ≤ 10000000000000000000000
+pub between-le : (t r : ℤ) → unsigned_abs t ≤ 1000000000000000000000 → unsigned_abs r ≤ 3141592653590 → unsigned_abs (rnd (t *ℤ r) (pos units_per_one)) ≤ 10000000000000000000000
 between-le t r ht hr =
     let product : unsigned_abs t * unsigned_abs r ≤ 1000000000000000000000 * 3141592653590 = mul-le _ _ _ _ ht hr in
-    rnd-le (t *ℤ r) (pos 1000000000000) 10000000000000000000000 (omega arith) (rw (unsigned_abs-mul t r) (omega (arith, product)))
+    rnd-le (t *ℤ r) (pos units_per_one) 10000000000000000000000 (omega arith) (rw (unsigned_abs-mul t r) (omega (arith, product)))
 
 pub between-product : (u r : ℤ) → unsigned_abs u ≤ 10000000000000000000000 → unsigned_abs r ≤ 3141592653590 → unsigned_abs u * unsigned_abs r ≤ 1000000000000000000000000000000000000
 between-product u r hu hr =
@@ -108,12 +109,12 @@ sin_series-le r k h le = omega (arith, series-le (sin_term r) 100000000000000000
 pub cos_series-le : (r : ℤ) (k : ℕ) → unsigned_abs r ≤ 3141592653590 → k ≤ 13 → unsigned_abs (series (cos_term r) k) ≤ 13000000000000000000000
 cos_series-le r k h le = omega (arith, series-le (cos_term r) 1000000000000000000000 k (λ i il. cos_term-le r i h (omega arith)))
 
-pub exp_series-le : (f : ℤ) (k : ℕ) → unsigned_abs f ≤ 1000000000000 → k ≤ 17 → unsigned_abs (series (exp_term f) k) ≤ 17000000000000
-exp_series-le f k h le = omega (arith, series-le (exp_term f) 1000000000000 k (λ i il. exp_term-le f i h))
+pub exp_series-le : (f : ℤ) (k : ℕ) → unsigned_abs f ≤ units_per_one → k ≤ 17 → unsigned_abs (series (exp_term f) k) ≤ 17000000000000
+exp_series-le f k h le = omega (arith, series-le (exp_term f) units_per_one k (λ i il. exp_term-le f i h))
 
 -- ---- a loop's step
 
-pub exp_term_more : (f : ℤ) (k : ℕ) → rnd (exp_term f k *ℤ f) (pos ((k + 1) * 1000000000000)) ≡ exp_term f (k + 1)
+pub exp_term_more : (f : ℤ) (k : ℕ) → rnd (exp_term f k *ℤ f) (pos ((k + 1) * units_per_one)) ≡ exp_term f (k + 1)
 unfolding exp_term
 exp_term_more f k = rw (add-one k) refl
 
@@ -164,5 +165,5 @@ pub ruleset cos_steps = (series_first, series_more, cos_term_more, cos_term_firs
 pub ruleset next_steps = (between-le, between-product, mul-le)
 
 -- the units of a number fit the type that holds them
-pub units_fit : (z : ℤ) → unsigned_abs z ≤ 1000000000000000000000000 → FitsSigned w128 z
+pub units_fit : (z : ℤ) → unsigned_abs z ≤ most_units → FitsSigned w128 z
 units_fit z h = fits_signed_from_abs w128 z (omega arith)

@@ -6,6 +6,7 @@ use Rattle.std.proofs.lemmas.Bool.{cases_lt}
 use Rattle.std.proofs.lemmas.Bool.Decides.{leb_tells}
 use Rattle.std.specs.Prelude.{unsigned_abs, int_lt}
 use Rattle.std.specs.Int.{int_div_euclid, int_rem_euclid}
+use Rattle.fix_core.specs.Units.{units_per_one}
 use Rattle.fix_core.specs.declared.NumFault.TheVariants.{Overflow, Domain}
 use Rattle.fix_core.specs.Fixed.{one}
 use Rattle.math_fix.specs.Functions.{series, exp_term, exp_of, multiplied_by, times_power_of_e, root, sqrt_of, RootIsGreatest}
@@ -86,9 +87,9 @@ unfolding sqrt_of
 sqrt_negative (pos n) h = absurd (omega (arith, ints))
 sqrt_negative (negsuc n) h = refl
 
-pub sqrt_is : (x : ℤ) (r : ℕ) → pos 0 ≤ℤ x → r * r ≤ unsigned_abs x * 1000000000000 → unsigned_abs x * 1000000000000 < (r + 1) * (r + 1) → sqrt_of x ≡ Ok (pos r)
+pub sqrt_is : (x : ℤ) (r : ℕ) → pos 0 ≤ℤ x → r * r ≤ unsigned_abs x * units_per_one → unsigned_abs x * units_per_one < (r + 1) * (r + 1) → sqrt_of x ≡ Ok (pos r)
 unfolding sqrt_of
-sqrt_is (pos n) r h low high = rw (← (root_alone (n * 1000000000000) r low high)) refl
+sqrt_is (pos n) r h low high = rw (← (root_alone (n * units_per_one) r low high)) refl
 sqrt_is (negsuc n) r h low high = absurd (omega (arith, ints))
 
 pub ruleset roots = (sqrt_negative, sqrt_is)

@@ -1,6 +1,7 @@
 -- The mathematical functions, step by step over whole numbers of units. These steps are the definition.
 use Rattle.std.specs.Prelude.{◌≡◌, ℕ, zero, suc, ◌+◌, ◌-◌, ◌*◌, ◌≤◌, ℤ, pos, negsuc, ◌+ℤ◌, ◌-ℤ◌, ◌*ℤ◌, neg_ℤ, int_lt, nat_le, if◌then◌else◌, List, [], ◌∷◌, ◌++◌, Result, Ok, Err}
 use Rattle.std.specs.Int.{int_div_euclid, int_rem_euclid}
+use Rattle.fix_core.specs.Units.{units_per_one}
 use Rattle.fix_core.specs.declared.NumFault.{NumFault}
 use Rattle.fix_core.specs.declared.NumFault.TheVariants.{Overflow, Domain}
 use Rattle.fix_core.specs.Rounding.{rnd}
@@ -28,7 +29,7 @@ series term n = total (first_terms term n)
 -- f ^ k / k!, for a fraction f, each from the one before and rounded
 unfoldable pub exp_term : ℤ → ℕ → ℤ
 exp_term f zero = one
-exp_term f (suc k) = rnd (exp_term f k *ℤ f) (pos (suc k * 1000000000000))
+exp_term f (suc k) = rnd (exp_term f k *ℤ f) (pos (suc k * units_per_one))
 
 -- n times multiplied by a factor, rounded each time
 unfoldable pub multiplied_by : ℕ → ℤ → ℤ → Result ℤ NumFault
@@ -57,7 +58,7 @@ angle_of x = x -ℤ (rnd x (pos 6283185307180) *ℤ pos 6283185307180)
 
 -- the next term from the one before, over the product of the next two whole numbers
 abbrev pub next_term : ℤ → ℕ → ℤ → ℤ
-next_term r product t = neg_ℤ (rnd (rnd (t *ℤ r) one *ℤ r) (pos (product * 1000000000000)))
+next_term r product t = neg_ℤ (rnd (rnd (t *ℤ r) one *ℤ r) (pos (product * units_per_one)))
 
 unfoldable pub sin_term : ℤ → ℕ → ℤ
 sin_term r zero = r
@@ -86,7 +87,7 @@ root zero = 0
 root (suc n) = if nat_le ((root n + 1) * (root n + 1)) (suc n) then root n + 1 else root n
 
 unfoldable pub sqrt_of : ℤ → Result ℤ NumFault
-sqrt_of (pos n) = Ok (pos (root (n * 1000000000000)))
+sqrt_of (pos n) = Ok (pos (root (n * units_per_one)))
 sqrt_of (negsuc n) = Err Domain
 
 -- `root` is the greatest such number, and the only one that is

@@ -2,14 +2,15 @@
 #![tactic(auto)]
 
 ghost use Rattle.std.specs.Prelude.{◌≡◌, ◌+◌, ◌*◌, ◌<◌, ◌≤◌, ◌^◌, ℤ, pos, neg_ℤ, unsigned_abs};
+ghost use Rattle.fix_core.specs.Units.{units_per_one};
 ghost use Rattle.math_fix.specs.Functions.{series, exp_term, exp_of, angle_of, sin_term, sin_of, cos_term, cos_of, sqrt_of, multiplied_by, next_term, RootIsGreatest};
 
-use fix_core::{Fix, NumFault, round_quotient};
+use fix_core::{Fix, NumFault, UNITS_PER_ONE, round_quotient};
 
 mod root;
 
 /// The units of 1.0.
-const ONE: i128 = 1_000_000_000_000;
+const ONE: i128 = UNITS_PER_ONE as i128;
 
 /// The units of 2 pi.
 const TURN: i128 = 6_283_185_307_180;
@@ -38,7 +39,7 @@ fn multiply(n: u128, factor: Fix, s: Fix) -> Result<Fix, NumFault>
 /// The power of e to a fraction.
 #[tactic(auto, using(crate::proofs::Bounds::exp_steps))]
 fn exp_series(f: Fix) -> Fix
-    requires { unsigned_abs f ≤ 1000000000000 }
+    requires { unsigned_abs f ≤ units_per_one }
     ensures { result ≡ series (exp_term f) 17 }
 {
     let mut term = Fix::exactly(ONE);

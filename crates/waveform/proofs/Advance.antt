@@ -5,10 +5,11 @@ use Rattle.std.specs.List.{All, Any}
 use Rattle.std.proofs.lemmas.Bool.Decides.{nat_tests}
 use Rattle.std.proofs.lemmas.List.Elements.{All-head, All-tail, All-cons, All-weaker}
 use Rattle.ams_value.specs.declared.val.Val.{Val}
-use Rattle.waveform.specs.declared.trans.Trans.{Trans}
-use Rattle.waveform.specs.declared.trans.Mode.{Mode}
+use Rattle.step_data.specs.declared.trans.Trans.{Trans}
+use Rattle.waveform.specs.declared.trans.DelayKind.{DelayKind}
 use Rattle.waveform.specs.Projected.{IsRising, is_before, kept, projected}
-use Rattle.waveform.specs.Waveform.{is_at, is_after, advanced}
+use Rattle.step_data.specs.Pending.{is_at, is_after}
+use Rattle.waveform.specs.Waveform.{driver_at}
 use Rattle.waveform.proofs.Rising.{rising-head, rising-tail}
 
 first_is : (x y : Trans) (ys : List Trans) → slice_get (y ∷ ys) 0 ≡ Some x → y ≡ x
@@ -52,10 +53,10 @@ find_none : (t : ℕ) (xs : List Trans) → All (λ y. t < y.at) xs → find (is
 find_none t [] later = refl
 find_none t (x ∷ xs) later = rw (is_at_no t x (All-head (λ y. t < y.at) x xs later)) (find_none t xs (All-tail (λ y. t < y.at) x xs later))
 
-pub stays : (t : ℕ) (v : Val) (xs : List Trans) → All (λ y. t < y.at) xs → advanced t (record { value = v; pending = xs }) ≡ record { value = v; pending = xs }
+pub stays : (t : ℕ) (v : Val) (xs : List Trans) → All (λ y. t < y.at) xs → driver_at t (record { value = v; pending = xs }) ≡ record { value = v; pending = xs }
 stays t v xs later = rw (find_none t xs later, filter_all t xs later) refl
 
-pub takes_over : (t : ℕ) (v : Val) (xs : List Trans) (x : Trans) → slice_get xs 0 ≡ Some x → x.at ≡ t → IsRising xs → advanced t (record { value = v; pending = xs }) ≡ record { value = x.value; pending = drop 1 xs }
+pub takes_over : (t : ℕ) (v : Val) (xs : List Trans) (x : Trans) → slice_get xs 0 ≡ Some x → x.at ≡ t → IsRising xs → driver_at t (record { value = v; pending = xs }) ≡ record { value = x.value; pending = drop 1 xs }
 takes_over t v [] x e here rising = cc
 takes_over t v (y ∷ ys) x e here rising =
     let first : y ≡ x = first_is x y ys e in
@@ -73,6 +74,6 @@ pub by_answer : {E : Type 0} (r : Result (Unit {0}) E) (P Q R : Type 0) → (P �
 by_answer (Ok u) P Q R f g p q = f p
 by_answer (Err e) P Q R f g p q = g q
 
-pub projected_is : (mode : Mode) (reject : ℕ) (old new : List Trans) (first : Trans) → 0 < length new → first ≡ get_or new 0 first → kept mode reject first (filter (is_before first.at) old) ++ new ≡ projected mode reject old new
-projected_is mode reject old [] first some e = absurd (omega arith)
-projected_is mode reject old (y ∷ ys) first some e = rw e refl
+pub projected_is : (kind : DelayKind) (reject : ℕ) (old new : List Trans) (first : Trans) → 0 < length new → first ≡ get_or new 0 first → kept kind reject first (filter (is_before first.at) old) ++ new ≡ projected kind reject old new
+projected_is kind reject old [] first some e = absurd (omega arith)
+projected_is kind reject old (y ∷ ys) first some e = rw e refl

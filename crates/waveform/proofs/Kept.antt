@@ -8,12 +8,12 @@ use Rattle.std.proofs.lemmas.List.Elements.{All-head, All-tail, All-nil, All-con
 use Rattle.std.proofs.lemmas.Bool.{cases_lt}
 use Rattle.fix_core.specs.Laws.{at_place}
 use Rattle.std.proofs.lemmas.Bool.Decides.{nat_tests}
-use Rattle.step_data.specs.Same.{same_value}
-use Rattle.waveform.specs.declared.trans.Trans.{Trans}
-use Rattle.waveform.specs.declared.trans.Mode.{Mode}
-use Rattle.waveform.specs.declared.trans.Mode.TheVariants.{Inertial}
+use Rattle.ams_value.specs.Values.{equals}
+use Rattle.ams_value.specs.Laws.{equals_itself, values_decide}
+use Rattle.step_data.specs.declared.trans.Trans.{Trans}
+use Rattle.waveform.specs.declared.trans.DelayKind.{DelayKind}
+use Rattle.waveform.specs.declared.trans.DelayKind.TheVariants.{Inertial}
 use Rattle.waveform.specs.Projected.{IsRising, is_before, next_value, is_marked, marked, kept}
-use Rattle.waveform.proofs.Values.{same_refl}
 
 -- the times before which a transaction is early
 abbrev pub is_early : ℕ → Trans → Trans → Bool
@@ -37,8 +37,8 @@ unfolding is_marked
 run_marked reject first [] all = refl
 run_marked reject first (x ∷ later) all =
     let more : is_marked reject first later ≡ true = run_marked reject first later (All-tail (λ x. x.value ≡ first.value) x later all) in
-    let same : same_value x.value (next_value first later) ≡ true =
-    rw (All-head (λ x. x.value ≡ first.value) x later all, next_of first later (All-tail (λ x. x.value ≡ first.value) x later all)) (same_refl first.value) in
+    let same : equals x.value (next_value first later) ≡ true =
+    rw (All-head (λ x. x.value ≡ first.value) x later all, next_of first later (All-tail (λ x. x.value ≡ first.value) x later all)) (equals_itself first.value) in
     rw (more, same) (or_true (is_early reject first x))
 
 pub run_kept : (reject : ℕ) (first : Trans) (run : List Trans) → All (λ x. x.value ≡ first.value) run → marked reject first run ≡ run
@@ -48,7 +48,7 @@ run_kept reject first (x ∷ later) all =
     rw (run_marked reject first (x ∷ later) all, run_kept reject first later (All-tail (λ x. x.value ≡ first.value) x later all)) refl
 
 -- the last one before the run has another value
-stop_unmarked : (reject : ℕ) (first z : Trans) (run : List Trans) → All (λ x. x.value ≡ first.value) run → is_early reject first z ≡ false → same_value z.value first.value ≡ false → is_marked reject first (z ∷ run) ≡ false
+stop_unmarked : (reject : ℕ) (first z : Trans) (run : List Trans) → All (λ x. x.value ≡ first.value) run → is_early reject first z ≡ false → equals z.value first.value ≡ false → is_marked reject first (z ∷ run) ≡ false
 unfolding is_marked
 stop_unmarked reject first z run all late other = rw (next_of first run all, late, other) (and_false (is_marked reject first run))
 
@@ -67,7 +67,7 @@ gap_gone reject first (x ∷ gap) rest all h =
     let here : is_marked reject first (x ∷ (gap ++ rest)) ≡ false = gap_unmarked reject first (x ∷ gap) rest all h in
     rw here (gap_gone reject first gap rest (All-tail (λ x. is_early reject first x ≡ false) x gap all) h)
 
-stop_gone : (reject : ℕ) (first z : Trans) (run : List Trans) → All (λ x. x.value ≡ first.value) run → is_early reject first z ≡ false → same_value z.value first.value ≡ false → marked reject first (z ∷ run) ≡ run
+stop_gone : (reject : ℕ) (first z : Trans) (run : List Trans) → All (λ x. x.value ≡ first.value) run → is_early reject first z ≡ false → equals z.value first.value ≡ false → marked reject first (z ∷ run) ≡ run
 unfolding marked
 stop_gone reject first z run all late other = rw (stop_unmarked reject first z run all late other) (run_kept reject first run all)
 
@@ -83,7 +83,7 @@ early_kept reject first (x ∷ early) rest all =
     rw (early_marked reject first x (early ++ rest) (All-head (λ x. is_early reject first x ≡ true) x early all), early_kept reject first early rest (All-tail (λ x. is_early reject first x ≡ true) x early all)) refl
 
 -- all of it, by the parts of the list
-parts_kept : (reject : ℕ) (first : Trans) (early gap : List Trans) (z : Trans) (run : List Trans) → All (λ x. is_early reject first x ≡ true) early → All (λ x. is_early reject first x ≡ false) gap → is_early reject first z ≡ false → same_value z.value first.value ≡ false → All (λ x. x.value ≡ first.value) run → marked reject first (early ++ (gap ++ (z ∷ run))) ≡ early ++ run
+parts_kept : (reject : ℕ) (first : Trans) (early gap : List Trans) (z : Trans) (run : List Trans) → All (λ x. is_early reject first x ≡ true) early → All (λ x. is_early reject first x ≡ false) gap → is_early reject first z ≡ false → equals z.value first.value ≡ false → All (λ x. x.value ≡ first.value) run → marked reject first (early ++ (gap ++ (z ∷ run))) ≡ early ++ run
 parts_kept reject first early gap z run e g late other all =
     early_kept reject first early (gap ++ (z ∷ run)) e ∙ ap (λ (xs : List Trans). early ++ xs) (gap_gone reject first gap (z ∷ run) g (stop_unmarked reject first z run all late other) ∙ stop_gone reject first z run all late other)
 
@@ -164,7 +164,7 @@ rising_take xs n rising = λ i j d less h.
     let inside : j < length xs = omega (arith, length-take n xs) in
     rw (get_or-take n xs i d (omega arith), get_or-take n xs j d short) (rising i j d less inside)
 
-pub kept_parts : (reject limit : ℕ) (first : Trans) (old : List Trans) (early from : ℕ) → limit ≡ first.at - reject → early ≤ from → from ≤ length old → All (λ x. x.at < limit) (take early old) → ((d : Trans) → early < from → limit ≤ (get_or old early d).at) → All (λ x. x.value ≡ first.value) (drop from old) → ((d : Trans) → 0 < from → same_value (get_or old (from - 1) d).value first.value ≡ false) → IsRising old → marked reject first old ≡ take early old ++ drop from old
+pub kept_parts : (reject limit : ℕ) (first : Trans) (old : List Trans) (early from : ℕ) → limit ≡ first.at - reject → early ≤ from → from ≤ length old → All (λ x. x.at < limit) (take early old) → ((d : Trans) → early < from → limit ≤ (get_or old early d).at) → All (λ x. x.value ≡ first.value) (drop from old) → ((d : Trans) → 0 < from → equals (get_or old (from - 1) d).value first.value ≡ false) → IsRising old → marked reject first old ≡ take early old ++ drop from old
 kept_parts reject limit first old early from el le long soon late equal other rising =
     let soon' : All (λ x. is_early reject first x ≡ true) (take early old) = All-weaker (λ x. x.at < limit) (λ x. is_early reject first x ≡ true) (λ x h. early_yes reject limit first x el h) (take early old) soon in
     elim (cases_lt early from) [
@@ -191,8 +191,10 @@ kept_parts reject limit first old early from el le long soon late equal other ri
     ]
 
 -- what is kept, by the places that the code finds
-pub kept_inertial : (mode : Mode) (reject limit : ℕ) (first : Trans) (pending : List Trans) (early from end : ℕ) → mode ≡ Inertial → limit ≡ first.at - reject → filter (is_before first.at) pending ≡ take end pending → early ≤ from → from ≤ end → end ≤ length pending → All (λ x. x.at < limit) (take early (take end pending)) → ((d : Trans) → early < from → limit ≤ (get_or (take end pending) early d).at) → All (λ x. x.value ≡ first.value) (drop from (take end pending)) → ((d : Trans) → 0 < from → same_value (get_or (take end pending) (from - 1) d).value first.value ≡ false) → IsRising pending → kept mode reject first (filter (is_before first.at) pending) ≡ take early pending ++ drop from (take end pending)
-kept_inertial mode reject limit first pending early from end m el cut le short long soon late equal other rising =
+pub kept_inertial : (kind : DelayKind) (reject limit : ℕ) (first : Trans) (pending : List Trans) (early from end : ℕ) → kind ≡ Inertial → limit ≡ first.at - reject → filter (is_before first.at) pending ≡ take end pending → early ≤ from → from ≤ end → end ≤ length pending → All (λ x. x.at < limit) (take early (take end pending)) → ((d : Trans) → early < from → limit ≤ (get_or (take end pending) early d).at) → All (λ x. x.value ≡ first.value) (drop from (take end pending)) → ((d : Trans) → 0 < from → equals (get_or (take end pending) (from - 1) d).value first.value ≡ false) → IsRising pending → kept kind reject first (filter (is_before first.at) pending) ≡ take early pending ++ drop from (take end pending)
+kept_inertial kind reject limit first pending early from end m el cut le short long soon late equal other rising =
     let size : from ≤ length (take end pending) = omega (arith, length-take end pending) in
     let up : IsRising (take end pending) = rising_take pending end rising in
     rw (m, cut) (kept_parts reject limit first (take end pending) early from el le size soon late equal other up ∙ ap (λ (xs : List Trans). xs ++ drop from (take end pending)) (take-take early end pending (omega arith)))
+
+pub ruleset values = (values_decide)

@@ -1,4 +1,3 @@
 pub mod Advance
 pub mod Kept
 pub mod Rising
-pub mod Values

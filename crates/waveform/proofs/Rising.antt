@@ -5,9 +5,9 @@ use Rattle.std.specs.List.{All}
 use Rattle.std.proofs.lemmas.Bool.{cases_lt}
 use Rattle.std.proofs.lemmas.List.Kept.{AllPairs-cons, AllPairs-filter}
 use Rattle.std.proofs.lemmas.List.Elements.{All-nil, All-head, All-tail, All-cons, All-append, All-weaker}
-use Rattle.waveform.specs.declared.trans.Trans.{Trans}
-use Rattle.waveform.specs.declared.trans.Mode.{Mode}
-use Rattle.waveform.specs.declared.trans.Mode.TheVariants.{Transport, Inertial}
+use Rattle.step_data.specs.declared.trans.Trans.{Trans}
+use Rattle.waveform.specs.declared.trans.DelayKind.{DelayKind}
+use Rattle.waveform.specs.declared.trans.DelayKind.TheVariants.{Transport, Inertial}
 use Rattle.waveform.specs.Projected.{IsRising, is_before, is_marked, marked, kept, KeepsRising}
 use Rattle.waveform.proofs.Kept.{is_before_yes, is_before_no}
 
@@ -53,11 +53,11 @@ filter-before t (x ∷ xs) =
       | inr more ↦ rw (is_before_no t x more) (filter-before t xs)
     ]
 
-kept-all : (P : Trans → Type 0) (mode : Mode) (reject : ℕ) (first : Trans) (old : List Trans) → All P old → All P (kept mode reject first old)
+kept-all : (P : Trans → Type 0) (kind : DelayKind) (reject : ℕ) (first : Trans) (old : List Trans) → All P old → All P (kept kind reject first old)
 kept-all P Transport reject first old all = all
 kept-all P Inertial reject first old all = marked-all P reject first old all
 
-kept-rising : (mode : Mode) (reject : ℕ) (first : Trans) (old : List Trans) → IsRising old → IsRising (kept mode reject first old)
+kept-rising : (kind : DelayKind) (reject : ℕ) (first : Trans) (old : List Trans) → IsRising old → IsRising (kept kind reject first old)
 kept-rising Transport reject first old rising = rising
 kept-rising Inertial reject first old rising = marked-rising reject first old rising
 
@@ -66,12 +66,12 @@ behind first more x rising h =
     All-cons (λ y. x.at < y.at) first more h (All-weaker (λ y. first.at < y.at) (λ y. x.at < y.at) (λ y lt. omega arith) more (rising-head first more rising))
 
 pub projected-rising : KeepsRising
-projected-rising mode reject old [] a b = a
-projected-rising mode reject old (first ∷ more) a b =
+projected-rising kind reject old [] a b = a
+projected-rising kind reject old (first ∷ more) a b =
     let earlier = filter (is_before first.at) old in
-    let before : All (λ x. x.at < first.at) (kept mode reject first earlier) = kept-all (λ x. x.at < first.at) mode reject first earlier (filter-before first.at old) in
-    rising-append (kept mode reject first earlier) (first ∷ more)
-    (kept-rising mode reject first earlier (AllPairs-filter (λ x y. x.at < y.at) (is_before first.at) old a)) b
-    (All-weaker (λ x. x.at < first.at) (λ x. All (λ y. x.at < y.at) (first ∷ more)) (λ x h. behind first more x b h) (kept mode reject first earlier) before)
+    let before : All (λ x. x.at < first.at) (kept kind reject first earlier) = kept-all (λ x. x.at < first.at) kind reject first earlier (filter-before first.at old) in
+    rising-append (kept kind reject first earlier) (first ∷ more)
+    (kept-rising kind reject first earlier (AllPairs-filter (λ x y. x.at < y.at) (is_before first.at) old a)) b
+    (All-weaker (λ x. x.at < first.at) (λ x. All (λ y. x.at < y.at) (first ∷ more)) (λ x h. behind first more x b h) (kept kind reject first earlier) before)
 
 pub ruleset laws = (projected-rising)

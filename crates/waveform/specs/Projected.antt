@@ -2,10 +2,10 @@
 use Rattle.std.specs.Prelude.{ℕ, ◌+◌, ◌<◌, Bool, true, nat_lt, ◌&&◌, ◌||◌, if◌then◌else◌, List, [], ◌∷◌, ◌++◌, filter}
 use Rattle.std.specs.List.{AllPairs}
 use Rattle.ams_value.specs.declared.val.Val.{Val}
-use Rattle.step_data.specs.Same.{same_value}
-use Rattle.waveform.specs.declared.trans.Trans.{Trans}
-use Rattle.waveform.specs.declared.trans.Mode.{Mode}
-use Rattle.waveform.specs.declared.trans.Mode.TheVariants.{Transport, Inertial}
+use Rattle.ams_value.specs.Values.{equals}
+use Rattle.step_data.specs.declared.trans.Trans.{Trans}
+use Rattle.waveform.specs.declared.trans.DelayKind.{DelayKind}
+use Rattle.waveform.specs.declared.trans.DelayKind.TheVariants.{Transport, Inertial}
 
 -- each transaction is earlier than all later ones
 abbrev pub IsRising : List Trans → Type 0
@@ -22,7 +22,7 @@ next_value first (y ∷ later) = y.value
 -- whether the first of some old transactions is marked: it is earlier than the first new one's time less the rejection limit, or it stands directly before a marked one and has an equal value. Behind the last old one stands the first new one, which is marked
 unfoldable pub is_marked : ℕ → Trans → List Trans → Bool
 is_marked reject first [] = true
-is_marked reject first (x ∷ later) = nat_lt (x.at + reject) first.at || (is_marked reject first later && same_value x.value (next_value first later))
+is_marked reject first (x ∷ later) = nat_lt (x.at + reject) first.at || (is_marked reject first later && equals x.value (next_value first later))
 
 -- the marked ones of some old transactions
 unfoldable pub marked : ℕ → Trans → List Trans → List Trans
@@ -30,15 +30,15 @@ marked reject first [] = []
 marked reject first (x ∷ later) = if is_marked reject first (x ∷ later) then x ∷ marked reject first later else marked reject first later
 
 -- the old transactions that stay, of those before the first new one
-abbrev pub kept : Mode → ℕ → Trans → List Trans → List Trans
+abbrev pub kept : DelayKind → ℕ → Trans → List Trans → List Trans
 kept Transport reject first old = old
 kept Inertial reject first old = marked reject first old
 
 -- what the pending transactions become: the old ones at or after the first new one's time go, those that stay are followed by the new ones
-abbrev pub projected : Mode → ℕ → List Trans → List Trans → List Trans
-projected mode reject old [] = old
-projected mode reject old (first ∷ more) = kept mode reject first (filter (is_before first.at) old) ++ first ∷ more
+abbrev pub projected : DelayKind → ℕ → List Trans → List Trans → List Trans
+projected kind reject old [] = old
+projected kind reject old (first ∷ more) = kept kind reject first (filter (is_before first.at) old) ++ first ∷ more
 
 -- the times of a projected waveform rise
 abbrev pub KeepsRising : Type 0
-KeepsRising = (mode : Mode) (reject : ℕ) (old new : List Trans) → IsRising old → IsRising new → IsRising (projected mode reject old new)
+KeepsRising = (kind : DelayKind) (reject : ℕ) (old new : List Trans) → IsRising old → IsRising new → IsRising (projected kind reject old new)

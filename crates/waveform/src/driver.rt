@@ -4,14 +4,15 @@ ghost use Rattle.std.specs.Prelude.{◌≡◌, ◌+◌, ◌≤◌, ◌<◌, ◌�
 ghost use Rattle.std.specs.List.{All, Any};
 ghost use Rattle.std.specs.Option.{option_map};
 ghost use Rattle.waveform.specs.Projected.{IsRising, projected};
-ghost use Rattle.waveform.specs.Waveform.{advanced};
+ghost use Rattle.waveform.specs.Waveform.{driver_at};
 
 use crate::project::kept_of;
-use crate::trans::{Mode, Trans, TransList};
+use crate::trans::{DelayKind, INLINE_PLACES, TransList};
 use ams_value::Val;
 use fix_core::Tick;
 use std::alloc::{AllocError, Global};
 use std::marker::Model;
+use step_data::Trans;
 
 /// The current value of a driver and its pending transactions, whose times rise (IEEE 1076, drivers).
 #[derive(Drop)]
@@ -69,20 +70,20 @@ impl Driver {
     pub fn assign(
         &mut self,
         now: Tick,
-        mode: Mode,
+        kind: DelayKind,
         reject: u64,
         new: &[Trans],
     ) -> Result<(), AllocError>
         requires some { 0 < length new.now }
         requires rising { IsRising new.now }
         requires later { All (λ x. now ≤ x.at) new.now }
-        ensures ok { OnOk result (self.new ≡ record self.old { pending = projected mode reject self.old.pending new.now }) }
+        ensures ok { OnOk result (self.new ≡ record self.old { pending = projected kind reject self.old.pending new.now }) }
         ensures err { OnErr result (self.new ≡ self.old) }
 
-        // Where at most 4 transactions are pending then, no heap memory is asked for.
-        ensures inline { length (projected mode reject self.old.pending new.now) ≤ 4 → IsOk result }
+        // Where no more transactions are pending then than stand inline, no heap memory is asked for.
+        ensures inline { length (projected kind reject self.old.pending new.now) ≤ INLINE_PLACES → IsOk result }
     {
-        let kept = kept_of(self.pending.as_slice(), mode, reject, new[0]);
+        let kept = kept_of(self.pending.as_slice(), kind, reject, new[0]);
         self.pending.replace(kept, new)
     }
 
@@ -90,7 +91,7 @@ impl Driver {
     pub fn advance(&mut self, t: Tick) -> bool
         requires { All (λ x. t ≤ x.at) self.old.pending }
         ensures stood { IsTrue result ↔ Any (λ x. x.at ≡ t) self.old.pending }
-        ensures after { self.new ≡ advanced t self.old }
+        ensures after { self.new ≡ driver_at t self.old }
     {
         let Some(first) = self.pending.as_slice().first().copied() else {
             return false;

@@ -7,4 +7,4 @@ mod trans;
 
 pub use driver::Driver;
 pub use project::projection_keeps_times_rising;
-pub use trans::{Mode, Trans, TransList};
+pub use trans::{DelayKind, INLINE_PLACES, TransList};

@@ -2,12 +2,14 @@
 
 ghost use Rattle.std.specs.Prelude.{◌≡◌, ℕ, ◌+◌, ◌-◌, ◌≤◌, ◌<◌, ◌++◌, length, take, drop, filter, slice_index_or, IsTrue, ◌↔◌, false};
 ghost use Rattle.std.specs.List.{All};
-ghost use Rattle.step_data.specs.Same.{same_value};
-ghost use Rattle.waveform.specs.declared.trans.Trans.{Trans};
+ghost use Rattle.ams_value.specs.Values.{equals};
+ghost use Rattle.step_data.specs.declared.trans.Trans.{Trans};
 ghost use Rattle.waveform.specs.Projected.{is_before, kept, marked, IsRising, KeepsRising};
 
-use crate::trans::{Mode, Trans};
+use crate::trans::DelayKind;
+use ams_value::equal;
 use fix_core::Tick;
+use step_data::Trans;
 
 /// The times of a projected waveform rise. It is proved, and does nothing when it runs.
 #[tactic(auto, using(crate::proofs::Rising::laws))]
@@ -24,12 +26,12 @@ pub struct Kept {
 }
 
 /// The two transactions have equal values.
-#[tactic(auto, using(crate::proofs::Values::values))]
+#[tactic(auto, using(crate::proofs::Kept::values))]
 fn is_same(a: &Trans, b: &Trans) -> bool
-    ensures test { result ≡ same_value a.now.value b.now.value }
+    ensures test { result ≡ equals a.now.value b.now.value }
     ensures same { IsTrue result ↔ (a.now.value ≡ b.now.value) }
 {
-    a.value == b.value
+    equal(a.value, b.value)
 }
 
 /// How many transactions stand before a time.
@@ -55,7 +57,7 @@ pub fn count_before(pending: &[Trans], t: Tick) -> usize
 fn equal_from(old: &[Trans], first: &Trans) -> usize
     ensures within { result ≤ length old.now }
     ensures equal { All (λ x. x.value ≡ first.now.value) (drop result old.now) }
-    ensures differs { (d : Trans) → 0 < result → same_value (slice_index_or old.now (result - 1) d).value first.now.value ≡ false }
+    ensures differs { (d : Trans) → 0 < result → equals (slice_index_or old.now (result - 1) d).value first.now.value ≡ false }
 {
     let mut from = old.len();
     while from > 0 {
@@ -85,21 +87,21 @@ fn early_of(old: &[Trans], from: usize, limit: u64) -> usize
 }
 
 /// Which of the pending transactions an assignment keeps.
-pub fn kept_of(pending: &[Trans], mode: Mode, reject: u64, first: Trans) -> Kept
+pub fn kept_of(pending: &[Trans], kind: DelayKind, reject: u64, first: Trans) -> Kept
     requires { IsRising pending.now }
-    ensures kept { kept mode reject first (filter (is_before first.at) pending.now) ≡ take result.early pending.now ++ drop result.from (take result.end pending.now) }
+    ensures kept { kept kind reject first (filter (is_before first.at) pending.now) ≡ take result.early pending.now ++ drop result.from (take result.end pending.now) }
     ensures early { result.early ≤ result.from }
     ensures from { result.from ≤ result.end }
     ensures end { result.end ≤ length pending.now }
 {
     let end = count_before(pending, first.at);
-    match mode {
-        Mode::Transport => Kept {
+    match kind {
+        DelayKind::Transport => Kept {
             early: end,
             from: end,
             end,
         },
-        Mode::Inertial => {
+        DelayKind::Inertial => {
             let old = &pending[..end];
             let from = equal_from(old, &first);
             let early = early_of(old, from, first.at.get().saturating_sub(reject));

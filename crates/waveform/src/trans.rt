@@ -3,43 +3,32 @@
 ghost use Rattle.std.specs.Prelude.{◌≡◌, ◌+◌, ◌-◌, ◌≤◌, ◌<◌, ◌++◌, ◌↔◌, [], length, take, drop, remove, slice_get, Some, IsTrue, IsOk, OnOk, OnErr};
 
 use crate::project::{Kept, move_down};
-use ams_value::Val;
-use fix_core::Tick;
 use smallvec::SmallVec;
 use std::alloc::{AllocError, Global};
 use std::marker::Model;
+use step_data::Trans;
 
 /// How an assignment treats the old transactions (IEEE 1076, signal assignment).
 #[derive(Clone, Copy, Debug, PartialEq, Eq)]
-pub enum Mode {
+pub enum DelayKind {
     /// Old transactions before the first new one stay.
     Transport,
     /// Pulses shorter than the rejection limit go.
     Inertial,
 }
 
-/// A transaction: the driver has the value from this time on.
-#[derive(Clone, Copy, PartialEq, Eq)]
-pub struct Trans {
-    pub at: Tick,
-    pub value: Val,
-}
+/// How many transactions a list holds without heap memory.
+pub const INLINE_PLACES: usize = 4;
 
-/// What fills the places of a list that hold no transaction.
-impl Default for Trans {
-    fn default() -> Trans {
-        Trans {
-            at: Tick::new(0).unwrap(),
-            value: Val::Bool(false),
-        }
-    }
-}
-
-/// Makes room for so many elements. The first 4 need none.
-fn reserve_for(items: &mut SmallVec<Trans, 4>, stays: usize, more: usize) -> Result<(), AllocError>
+/// Makes room for so many elements. The first `INLINE_PLACES` need none.
+fn reserve_for(
+    items: &mut SmallVec<Trans, INLINE_PLACES>,
+    stays: usize,
+    more: usize,
+) -> Result<(), AllocError>
     ensures items { items.new.items ≡ items.old.items }
     ensures room { OnOk result (stays + more ≤ items.new.capacity) }
-    ensures inline { stays + more ≤ 4 → IsOk result }
+    ensures inline { stays + more ≤ INLINE_PLACES → IsOk result }
 {
     let Some(wanted) = stays.checked_add(more) else {
         return Err(AllocError);
@@ -50,15 +39,15 @@ fn reserve_for(items: &mut SmallVec<Trans, 4>, stays: usize, more: usize) -> Res
     items.reserve(wanted.saturating_sub(items.len()))
 }
 
-/// Transactions in order. Up to 4 of them need no heap memory.
+/// Transactions in order. Up to `INLINE_PLACES` of them need no heap memory.
 #[derive(Drop)]
 pub struct TransList {
-    items: SmallVec<Trans, 4>,
+    items: SmallVec<Trans, INLINE_PLACES>,
 }
 
 impl Model for TransList {
     ghost use Rattle.std.specs.Prelude.{List};
-    ghost use Rattle.waveform.specs.declared.trans.Trans.{Trans};
+    ghost use Rattle.step_data.specs.declared.trans.Trans.{Trans};
 
     ghost Value = { List Trans };
 
@@ -118,7 +107,7 @@ impl TransList {
         requires end { kept.end ≤ length self.old }
         ensures ok { OnOk result (self.new ≡ take kept.early self.old ++ drop kept.from (take kept.end self.old) ++ new.now) }
         ensures err { OnErr result (self.new ≡ self.old) }
-        ensures inline { kept.early + (kept.end - kept.from) + length new.now ≤ 4 → IsOk result }
+        ensures inline { kept.early + (kept.end - kept.from) + length new.now ≤ INLINE_PLACES → IsOk result }
     {
         let stays = kept.early + (kept.end - kept.from);
         reserve_for(&mut self.items, stays, new.len())?;

@@ -1,7 +1,7 @@
 -- The first pending transaction is the only one that can stand at t.
 use Rattle.std.proofs.Common.{◌≡◌, List, Some, ap, sym, ◌∙◌}
 use Rattle.std.specs.Prelude.{slice_get}
-use Rattle.waveform.specs.declared.trans.Trans.{Trans}
+use Rattle.step_data.specs.declared.trans.Trans.{Trans}
 use Rattle.waveform.proofs.Advance.{all_after, none_at, stays, takes_over, rising_rest}
 use Rattle.waveform.proofs.driver.Driver.advance.Goals as goal
 
