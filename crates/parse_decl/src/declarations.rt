@@ -9,6 +9,7 @@ use crate::branches::{across_branch, nature_declaration, terminal_declaration, t
 use crate::parts::{default, indication, names_colon};
 use ams_token::{Mark, Place, TokenKind, Word};
 use ams_tree::{Declaration, Expr, Name, ProcessDeclaration, SubtypeIndication};
+use held_value::Held;
 use parse_expr::outermost;
 use parse_parts::{name, names};
 use parse_steps::{Reader, Stop};
@@ -29,10 +30,10 @@ fn signal_declaration(
 {
     let place = reader.expect(TokenKind::Word(Word::Signal))?;
     let ids = names_colon(alloc, reader)?;
-    let indication = indication(alloc, reader, levels)?;
-    let value = default(alloc, reader, levels)?;
+    let indication = Held::new(indication(alloc, reader, levels)?);
+    let value = Held::new(default(alloc, reader, levels)?);
     reader.expect(SEMICOLON)?;
-    Ok(Declaration::Signal(place, ids, indication, value))
+    Ok(Declaration::Signal(place, ids, indication.into_inner(), value.into_inner()))
 }
 
 #[tactic(auto, unfolding(crate::specs::Parsing::constant_end))]
@@ -44,8 +45,10 @@ fn constant_end(
 ) -> Result<(Items<Name>, SubtypeIndication, Expr), Stop>
     ensures { Reads (spec.constant_end ids indication value reader.old) result reader.new }
 {
+    let indication = Held::new(indication);
+    let value = Held::new(value);
     reader.expect(SEMICOLON)?;
-    Ok((ids, indication, value))
+    Ok((ids, indication.into_inner(), value.into_inner()))
 }
 
 #[tactic(auto, unfolding(crate::specs::Parsing::constant_parts))]
@@ -57,10 +60,10 @@ fn constant_parts(
     ensures { Reads (spec.constant_parts most_operators levels reader.old) result reader.new }
 {
     let ids = names_colon(alloc, reader)?;
-    let indication = indication(alloc, reader, levels)?;
+    let indication = Held::new(indication(alloc, reader, levels)?);
     reader.expect(TokenKind::Mark(Mark::Assign))?;
     let value = outermost(alloc, reader, levels)?;
-    constant_end(reader, ids, indication, value)
+    constant_end(reader, ids, indication.into_inner(), value)
 }
 
 #[tactic(auto, unfolding(crate::specs::Parsing::constant_declaration))]
@@ -87,10 +90,10 @@ fn free_quantity(
     ensures { Reads (spec.free_quantity most_operators levels place ids reader.old) result reader.new }
 {
     reader.expect(COLON)?;
-    let indication = indication(alloc, reader, levels)?;
-    let value = default(alloc, reader, levels)?;
+    let indication = Held::new(indication(alloc, reader, levels)?);
+    let value = Held::new(default(alloc, reader, levels)?);
     reader.expect(SEMICOLON)?;
-    Ok(Declaration::Quantity(place, ids, indication, value))
+    Ok(Declaration::Quantity(place, ids, indication.into_inner(), value.into_inner()))
 }
 
 #[tactic(auto, unfolding(crate::specs::Parsing::quantity_declaration))]
@@ -149,9 +152,9 @@ fn subtype_declaration(
     let place = reader.expect(TokenKind::Word(Word::Subtype))?;
     let found = name(reader)?;
     reader.expect(TokenKind::Word(Word::Is))?;
-    let indication = indication(alloc, reader, levels)?;
+    let indication = Held::new(indication(alloc, reader, levels)?);
     reader.expect(SEMICOLON)?;
-    Ok(Declaration::Subtype(place, found, indication))
+    Ok(Declaration::Subtype(place, found, indication.into_inner()))
 }
 
 /// A declaration, in which `levels` parentheses may be open.
@@ -194,10 +197,10 @@ fn variable_declaration(
 {
     let place = reader.expect(TokenKind::Word(Word::Variable))?;
     let ids = names_colon(alloc, reader)?;
-    let indication = indication(alloc, reader, levels)?;
-    let value = default(alloc, reader, levels)?;
+    let indication = Held::new(indication(alloc, reader, levels)?);
+    let value = Held::new(default(alloc, reader, levels)?);
     reader.expect(SEMICOLON)?;
-    Ok(ProcessDeclaration::Variable(place, ids, indication, value))
+    Ok(ProcessDeclaration::Variable(place, ids, indication.into_inner(), value.into_inner()))
 }
 
 #[tactic(auto, unfolding(crate::specs::Parsing::local_constant))]

@@ -8,6 +8,7 @@ ghost use Rattle.parse_decl.specs.Parsing as spec;
 use crate::parts::{default, indication, mode, names_colon, word_place, word_said};
 use ams_token::{Place, TokenKind, Word};
 use ams_tree::{Generic, Port};
+use held_value::Held;
 use parse_parts::name;
 use parse_steps::{Reader, Stop};
 use std::alloc::Global;
@@ -20,13 +21,13 @@ pub fn generic(alloc: Global, reader: &mut Reader<'_>, levels: u32) -> Result<Ge
     let constant = word_place(reader, Word::Constant)?;
     let names = names_colon(alloc, reader)?;
     let mode_in = word_said(reader, Word::In)?;
-    let indication = indication(alloc, reader, levels)?;
+    let indication = Held::new(indication(alloc, reader, levels)?);
     let default = default(alloc, reader, levels)?;
     Ok(Generic {
         constant,
         names,
         mode_in,
-        indication,
+        indication: indication.into_inner(),
         default,
     })
 }
@@ -63,9 +64,9 @@ fn signal_port(
 {
     let ids = names_colon(alloc, reader)?;
     let mode = mode(reader)?;
-    let indication = indication(alloc, reader, levels)?;
+    let indication = Held::new(indication(alloc, reader, levels)?);
     let value = default(alloc, reader, levels)?;
-    Ok(Port::Signal(place, ids, mode, indication, value))
+    Ok(Port::Signal(place, ids, mode, indication.into_inner(), value))
 }
 
 /// A declaration of ports, in which `levels` parentheses may be open.

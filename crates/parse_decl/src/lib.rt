@@ -11,5 +11,5 @@ mod tokens;
 pub use declarations::{any_declaration, process_declaration};
 pub use interfaces::{generic, port_declaration};
 pub use parts::word_said;
-pub use read::{MOST_LEVELS, MOST_OPERATORS, declaration, fronts_begin, one_tree};
+pub use read::{declaration, fronts_begin, one_tree};
 pub use tokens::{begins_declaration, begins_process_declaration};

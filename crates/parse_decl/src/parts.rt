@@ -8,6 +8,7 @@ ghost use Rattle.parse_decl.specs.Parsing as spec;
 use crate::tokens::mode_of;
 use ams_token::{Mark, Place, TokenKind, Word};
 use ams_tree::{Bounds, Expr, Mode, Name, Range, SubtypeIndication};
+use held_value::Held;
 use parse_expr::{outermost, outermost_simple};
 use parse_parts::{name, names, range};
 use parse_steps::{Reader, Stop};
@@ -68,10 +69,13 @@ fn bounds(alloc: Global, reader: &mut Reader<'_>, levels: u32) -> Result<Bounds,
     ensures { Reads (spec.bounds most_operators levels reader.old) result reader.new }
 {
     reader.expect(TokenKind::Word(Word::Range))?;
-    let low = outermost_simple(alloc, reader, levels)?;
+    let low = Held::new(outermost_simple(alloc, reader, levels)?);
     reader.expect(TokenKind::Word(Word::To))?;
     let high = outermost_simple(alloc, reader, levels)?;
-    Ok(Bounds { low, high })
+    Ok(Bounds {
+        low: low.into_inner(),
+        high,
+    })
 }
 
 /// The value behind `:=`, which may be left out.
@@ -92,9 +96,9 @@ fn index(alloc: Global, reader: &mut Reader<'_>, levels: u32) -> Result<Range, S
     ensures { Reads (spec.index most_operators levels reader.old) result reader.new }
 {
     reader.expect_within(OPEN, levels > 0, 0)?;
-    let found = range(alloc, reader, levels.saturating_sub(1))?;
+    let found = Held::new(range(alloc, reader, levels.saturating_sub(1))?);
     reader.expect(TokenKind::Mark(Mark::RightParen))?;
-    Ok(found)
+    Ok(found.into_inner())
 }
 
 #[tactic(auto, unfolding(crate::specs::Parsing::some_index))]
@@ -129,11 +133,11 @@ pub fn indication(
     ensures { Reads (spec.indication most_operators levels reader.old) result reader.new }
 {
     let mark = name(reader)?;
-    let index = some_index(alloc, reader, levels)?;
+    let index = Held::new(some_index(alloc, reader, levels)?);
     let bounds = some_bounds(alloc, reader, levels)?;
     Ok(SubtypeIndication {
         mark,
-        index,
+        index: index.into_inner(),
         bounds,
     })
 }

@@ -3,19 +3,13 @@ ghost use Rattle.ams_token.specs.declared.token.Token.{Token};
 ghost use Rattle.ams_tree.specs.declared.declaration.Declaration.{Declaration};
 ghost use Rattle.ams_tree.specs.Declarations as grammar;
 ghost use Rattle.ams_tree.specs.Answer.{Spells, SpellsWithin, Begins, BeginsWithin};
-ghost use Rattle.parse_steps.specs.Reply.{Answers, IsTree, most_operators};
+ghost use Rattle.parse_steps.specs.Reply.{Answers, IsTree, most_levels, most_operators};
 
 use crate::declarations;
 use ams_token::{Token, Tokens};
 use ams_tree::Declaration;
-use parse_steps::{ParseFault, Reader, fault_at};
+use parse_steps::{MOST_LEVELS, MOST_OPERATORS, ParseFault, Reader, fault_at};
 use std::alloc::Global;
-
-/// How many levels may be open.
-pub const MOST_LEVELS: u32 = 64;
-
-/// How many operators, calls and attributes an outermost expression may have.
-pub const MOST_OPERATORS: u32 = 256;
 
 /// Reads the declaration that begins at a place, as far as the tokens go on with one, where `depth` levels are open.
 /// Answers the tree with the place behind it.
@@ -26,11 +20,11 @@ pub fn declaration(
     depth: u32,
 ) -> Result<(Declaration, usize), ParseFault>
     requires place { at ≤ length tokens.now.list.items }
-    requires open { depth ≤ 64 }
+    requires open { depth ≤ most_levels }
     // The longest front that begins a declaration is one, or the first place where none goes on or a limit is passed.
-    ensures answer { Answers grammar.declaration (64 - depth) tokens.now.list.items at result }
+    ensures answer { Answers grammar.declaration (most_levels - depth) tokens.now.list.items at result }
     // What a tree within the limits spells is read as that tree.
-    ensures back { (tree : Declaration) → SpellsWithin grammar.declaration (64 - depth) most_operators tree (drop at tokens.now.list.items) → IsTree tree (length tokens.now.list.items) result }
+    ensures back { (tree : Declaration) → SpellsWithin grammar.declaration (most_levels - depth) most_operators tree (drop at tokens.now.list.items) → IsTree tree (length tokens.now.list.items) result }
 {
     read(alloc, tokens.list.as_slice(), at, MOST_LEVELS - depth)
 }

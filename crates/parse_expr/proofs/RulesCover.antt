@@ -4,7 +4,7 @@ use Rattle.ams_token.specs.declared.token.Token.{Token}
 use Rattle.ams_token.specs.declared.word.Word.TheVariants as w
 use Rattle.ams_token.specs.declared.mark.Mark.TheVariants as m
 use Rattle.ams_tree.specs.declared.expression.Name.{Name}
-use Rattle.ams_tree.specs.declared.expression.Binary.{Binary}
+use Rattle.ams_tree.specs.declared.expression.BinaryOperator.{BinaryOperator}
 use Rattle.ams_tree.specs.declared.expression.Expr.{Expr}
 use Rattle.ams_tree.specs.Terminals.{of_class, mark, word, name_of, number_of, literal_of, multiplying, adding, shifting, sign, prefix, relating, event, dot, above}
 use Rattle.ams_tree.specs.Rule.{Rule}
@@ -130,11 +130,11 @@ module _ (Over : Type 0) (allowed_rule allowed : Bool) (inner_rule : Rule Expr) 
   unfolding G.rel R.rel
   rel = fits expr_first rel_next (then_ shift (λ left. or_ relating relating_tells (then_ (reads Over 1 relators relating relating_tells) (λ op. ends _ shift) refl) (pure_covers Over left) refl) refl) refl refl refl
 
-  once : (c : ℕ) (op : Binary) (left : Expr) → Covers Over false (c ∷ []) rel_next (G.once allowed_rule inner_rule (of_class c) op left) (R.once allowed inner (of_class c) op left)
+  once : (c : ℕ) (op : BinaryOperator) (left : Expr) → Covers Over false (c ∷ []) rel_next (G.once allowed_rule inner_rule (of_class c) op left) (R.once allowed inner (of_class c) op left)
   unfolding G.once R.once
   once c op left = then_ (takes_ Over 1 c) (λ _. ends _ rel) refl
 
-  chain : (c : ℕ) (op : Binary) (left : Expr) → apart rel_next (c ∷ []) ≡ true → Covers Over false (c ∷ []) (c ∷ (rel_next ++ rel_next)) (G.chain allowed_rule inner_rule (of_class c) op left) (R.chain allowed inner (of_class c) op left)
+  chain : (c : ℕ) (op : BinaryOperator) (left : Expr) → apart rel_next (c ∷ []) ≡ true → Covers Over false (c ∷ []) (c ∷ (rel_next ++ rel_next)) (G.chain allowed_rule inner_rule (of_class c) op left) (R.chain allowed inner (of_class c) op left)
   unfolding G.chain R.chain R.more_links
   chain c op left sep = then_ (once c op left) (λ first. again (of_class c) (class_tells c) _ (then_ (takes_ Over 1 c) (λ _. rel) refl) sep first) sep
 

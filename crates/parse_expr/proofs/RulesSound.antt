@@ -5,7 +5,7 @@ use Rattle.ams_token.specs.declared.token.Token.{Token}
 use Rattle.ams_token.specs.declared.word.Word.TheVariants as w
 use Rattle.ams_token.specs.declared.mark.Mark.TheVariants as m
 use Rattle.ams_tree.specs.declared.expression.Name.{Name}
-use Rattle.ams_tree.specs.declared.expression.Binary.{Binary}
+use Rattle.ams_tree.specs.declared.expression.BinaryOperator.{BinaryOperator}
 use Rattle.ams_tree.specs.declared.expression.Expr.{Expr}
 use Rattle.ams_tree.specs.Terminals.{mark, word, name_of, number_of, literal_of, multiplying, adding, shifting, sign, prefix, relating, event, dot, above}
 use Rattle.ams_tree.specs.Rule.{Rule}
@@ -78,11 +78,11 @@ module _ (Over : Type 0) (allowed_rule allowed : Bool) (deeper : Rule Expr) (inn
   unfolding G.rel R.rel
   rel = then_ shift (λ left. or_ relating (then_ (op_ Over _) (λ op. ends _ shift)) (pure_sound Over left))
 
-  once : (f : Token → Option Place) (op : Binary) (left : Expr) → Sound Over (G.once allowed_rule deeper f op left) (R.once allowed inner f op left)
+  once : (f : Token → Option Place) (op : BinaryOperator) (left : Expr) → Sound Over (G.once allowed_rule deeper f op left) (R.once allowed inner f op left)
   unfolding G.once R.once
   once f op left = then_ (op_ Over f) (λ _. ends _ rel)
 
-  chain : (f : Token → Option Place) (op : Binary) (left : Expr) → Sound Over (G.chain allowed_rule deeper f op left) (R.chain allowed inner f op left)
+  chain : (f : Token → Option Place) (op : BinaryOperator) (left : Expr) → Sound Over (G.chain allowed_rule deeper f op left) (R.chain allowed inner f op left)
   unfolding G.chain R.chain R.more_links
   chain f op left = then_ (once f op left) (λ first. again f _ (then_ (op_ Over f) (λ _. rel)) first)
 

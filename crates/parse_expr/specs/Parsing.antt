@@ -5,8 +5,8 @@ use Rattle.ams_token.specs.declared.token.Token.{Token}
 use Rattle.ams_token.specs.declared.word.Word.TheVariants as w
 use Rattle.ams_token.specs.declared.mark.Mark.TheVariants as m
 use Rattle.ams_tree.specs.declared.expression.Name.{Name}
-use Rattle.ams_tree.specs.declared.expression.Binary.{Binary}
-use Rattle.ams_tree.specs.declared.expression.Binary.TheVariants as binary
+use Rattle.ams_tree.specs.declared.expression.BinaryOperator.{BinaryOperator}
+use Rattle.ams_tree.specs.declared.expression.BinaryOperator.TheVariants as binary
 use Rattle.ams_tree.specs.declared.expression.Attribute.{Attribute}
 use Rattle.ams_tree.specs.declared.expression.Attribute.TheVariants as attr
 use Rattle.ams_tree.specs.declared.expression.Expr.{Expr}
@@ -120,19 +120,19 @@ module _ (allowed : Bool) (inner : Parser Expr) where
     left ← shift
     choose (at relating) (counted relating >>= (λ op. shift >>= (λ x. pure (e.Binary op left x)))) (pure left)
 
-  unfoldable pub once : (Token → Option Place) → Binary → Expr → Parser Expr
+  unfoldable pub once : (Token → Option Place) → BinaryOperator → Expr → Parser Expr
   once f op left = do
     counted f
     x ← rel
     pure (e.Binary op left x)
 
-  abbrev pub link_turns : (Token → Option Place) → Binary → ℕ → Expr → Parser Expr
+  abbrev pub link_turns : (Token → Option Place) → BinaryOperator → ℕ → Expr → Parser Expr
   link_turns f op = turns (at f) (λ l x. e.Binary op l x) (counted f >> rel)
 
-  unfoldable pub more_links : (Token → Option Place) → Binary → Expr → Parser Expr
+  unfoldable pub more_links : (Token → Option Place) → BinaryOperator → Expr → Parser Expr
   more_links f op = repeated (at f) (λ l x. e.Binary op l x) (counted f >> rel)
 
-  unfoldable pub chain : (Token → Option Place) → Binary → Expr → Parser Expr
+  unfoldable pub chain : (Token → Option Place) → BinaryOperator → Expr → Parser Expr
   chain f op left = once f op left >>= more_links f op
 
   unfoldable pub more_relations : Expr → Parser Expr

@@ -9,6 +9,3 @@ mod tokens;
 pub use outer::{listed_name, outermost, outermost_simple};
 pub use read::{expression, fronts_begin, one_tree};
 pub use tokens::{literal_of, name_of};
-
-#[cfg(test)]
-mod tests;

@@ -3,10 +3,10 @@ ghost use Rattle.parse_steps.specs.Reading.{Reads};
 ghost use Rattle.parse_steps.specs.Reply.{most_operators};
 ghost use Rattle.parse_expr.specs.Parsing as spec;
 
-use crate::rules::{MOST_OPERATORS, Rules, nested};
+use crate::rules::{Rules, nested};
 use crate::tokens::name_of;
 use ams_tree::Expr;
-use parse_steps::{Reader, Stop};
+use parse_steps::{MOST_OPERATORS, Reader, Stop};
 use std::alloc::Global;
 
 /// An expression that stands in no other one, in which `levels` parentheses may be open.

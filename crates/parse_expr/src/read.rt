@@ -3,16 +3,13 @@ ghost use Rattle.ams_token.specs.declared.token.Token.{Token};
 ghost use Rattle.ams_tree.specs.declared.expression.Expr.{Expr};
 ghost use Rattle.ams_tree.specs.Expressions as grammar;
 ghost use Rattle.ams_tree.specs.Answer.{Spells, SpellsWithin, Begins, BeginsWithin};
-ghost use Rattle.parse_steps.specs.Reply.{Answers, IsTree, most_operators};
+ghost use Rattle.parse_steps.specs.Reply.{Answers, IsTree, most_levels, most_operators};
 
 use crate::outer;
-use crate::rules::MOST_OPERATORS;
 use ams_token::{Token, Tokens};
 use ams_tree::Expr;
-use parse_steps::{ParseFault, Reader, fault_at};
+use parse_steps::{MOST_LEVELS, MOST_OPERATORS, ParseFault, Reader, fault_at};
 use std::alloc::Global;
-
-const MOST_LEVELS: u32 = 64;
 
 /// Reads the expression that begins at a place, as far as the tokens go on with one, where `depth` levels are open.
 /// Answers the tree with the place behind it.
@@ -23,11 +20,11 @@ pub fn expression(
     depth: u32,
 ) -> Result<(Expr, usize), ParseFault>
     requires place { at ≤ length tokens.now.list.items }
-    requires open { depth ≤ 64 }
+    requires open { depth ≤ most_levels }
     // The longest front that begins an expression is one, or the first place where none goes on or a limit is passed.
-    ensures answer { Answers grammar.expression (64 - depth) tokens.now.list.items at result }
+    ensures answer { Answers grammar.expression (most_levels - depth) tokens.now.list.items at result }
     // What a tree within the limits spells is read as that tree.
-    ensures back { (tree : Expr) → SpellsWithin grammar.expression (64 - depth) most_operators tree (drop at tokens.now.list.items) → IsTree tree (length tokens.now.list.items) result }
+    ensures back { (tree : Expr) → SpellsWithin grammar.expression (most_levels - depth) most_operators tree (drop at tokens.now.list.items) → IsTree tree (length tokens.now.list.items) result }
 {
     read(alloc, tokens.list.as_slice(), at, MOST_LEVELS - depth)
 }

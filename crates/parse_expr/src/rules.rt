@@ -13,24 +13,24 @@ use crate::tokens::{
     adding, literal_of, multiplying, name_of, number_of, prefix, relating, shifting, sign,
 };
 use ams_token::{Mark, Place, TokenKind, Word};
-use ams_tree::{Attribute, Binary, Expr, Name, Unary};
-use parse_steps::{Reader, Stop};
+use ams_tree::{Attribute, BinaryOperator, Expr, Name, UnaryOperator};
+use held_value::Held;
+use parse_steps::{MOST_OPERATORS, Reader, Stop};
 use sqlite_items::{Boxed, Items};
 use std::alloc::{AllocError, Global};
 
-/// How many operators, calls and attributes an outermost expression may have.
-pub const MOST_OPERATORS: u32 = 256;
-
-fn unary(alloc: Global, op: (Unary, Place), x: Expr) -> Result<Expr, AllocError>
+fn unary(alloc: Global, op: (UnaryOperator, Place), x: Expr) -> Result<Expr, AllocError>
     ensures { IfOk result (λ e. e ≡ Expr.Unary op.0 op.1 x) }
 {
     Ok(Expr::Unary(op.0, op.1, Boxed::new(alloc, x)?))
 }
 
-fn binary(alloc: Global, op: Binary, x: Expr, y: Expr) -> Result<Expr, AllocError>
+fn binary(alloc: Global, op: BinaryOperator, x: Expr, y: Expr) -> Result<Expr, AllocError>
     ensures { IfOk result (λ e. e ≡ Expr.Binary op x y) }
 {
-    Ok(Expr::Binary(op, Boxed::new(alloc, x)?, Boxed::new(alloc, y)?))
+    let y = Held::new(y);
+    let x = Boxed::new(alloc, x)?;
+    Ok(Expr::Binary(op, x, Boxed::new(alloc, y.into_inner())?))
 }
 
 #[tactic(auto, using(parse_steps::proofs::Steps::terminal_seen), unfolding(crate::specs::Parsing::unit))]
@@ -75,9 +75,9 @@ impl<F: Fn(Global, &mut Reader<'_>, u32) -> Result<Expr, Stop>> Rules<F> {
         ensures { Reads (spec.grouped (allows self.now.levels) (inside self.now.listed self.now.levels) reader.old) result reader.new }
     {
         let place = reader.expect_within(TokenKind::Mark(Mark::LeftParen), self.levels > 0, 0)?;
-        let inner = self.nested(reader)?;
+        let inner = Held::new(self.nested(reader)?);
         reader.expect(TokenKind::Mark(Mark::RightParen))?;
-        Ok((place, inner))
+        Ok((place, inner.into_inner()))
     }
 
     #[tactic(auto, using(parse_steps::proofs::Steps::terminal_seen), unfolding(crate::specs::Parsing::ramp_fall))]
@@ -99,10 +99,10 @@ impl<F: Fn(Global, &mut Reader<'_>, u32) -> Result<Expr, Stop>> Rules<F> {
         ensures { Reads (spec.ramp_times (allows self.now.levels) (inside self.now.listed self.now.levels) reader.old) result reader.new }
     {
         reader.expect_within(TokenKind::Mark(Mark::LeftParen), self.levels > 0, 0)?;
-        let rise = self.nested(reader)?;
-        let fall = self.ramp_fall(reader)?;
+        let rise = Boxed::new(self.alloc, self.nested(reader)?)?;
+        let fall = Held::new(self.ramp_fall(reader)?);
         reader.expect(TokenKind::Mark(Mark::RightParen))?;
-        Ok(Attribute::Ramp(Some(Boxed::new(self.alloc, rise)?), fall))
+        Ok(Attribute::Ramp(Some(rise), fall.into_inner()))
     }
 
     #[tactic(auto, using(parse_steps::proofs::Steps::terminal_seen), unfolding(crate::specs::Parsing::ramped))]
@@ -183,13 +183,18 @@ impl<F: Fn(Global, &mut Reader<'_>, u32) -> Result<Expr, Stop>> Rules<F> {
         requires { Nests self.now.levels (F.pre self.now.nested) (F.post self.now.nested) }
         ensures { Reads (spec.power (allows self.now.levels) (inside self.now.listed self.now.levels) reader.old) result reader.new }
     {
-        let base = self.primary(reader)?;
+        let base = Held::new(self.primary(reader)?);
         if !reader.at(TokenKind::Mark(Mark::DoubleStar)) {
-            return Ok(base);
+            return Ok(base.into_inner());
         }
         reader.expect_within(TokenKind::Mark(Mark::DoubleStar), true, 1)?;
         let exponent = self.primary(reader)?;
-        Ok(binary(self.alloc, Binary::Power, base, exponent)?)
+        Ok(binary(
+            self.alloc,
+            BinaryOperator::Power,
+            base.into_inner(),
+            exponent,
+        )?)
     }
 
     #[tactic(auto, using(parse_steps::proofs::Steps::terminal_seen), unfolding(crate::specs::Parsing::factor))]
@@ -223,13 +228,13 @@ impl<F: Fn(Global, &mut Reader<'_>, u32) -> Result<Expr, Stop>> Rules<F> {
         requires { Nests self.now.levels (F.pre self.now.nested) (F.post self.now.nested) }
         ensures { Reads (spec.shift (allows self.now.levels) (inside self.now.listed self.now.levels) reader.old) result reader.new }
     {
-        let left = self.simple(reader)?;
+        let left = Held::new(self.simple(reader)?);
         let Some(op) = shifting(reader.peek()) else {
-            return Ok(left);
+            return Ok(left.into_inner());
         };
         reader.take(true, 1)?;
         let right = self.simple(reader)?;
-        Ok(binary(self.alloc, op, left, right)?)
+        Ok(binary(self.alloc, op, left.into_inner(), right)?)
     }
 
     #[tactic(auto, using(parse_steps::proofs::Steps::terminal_seen), unfolding(crate::specs::Parsing::rel))]
@@ -237,13 +242,13 @@ impl<F: Fn(Global, &mut Reader<'_>, u32) -> Result<Expr, Stop>> Rules<F> {
         requires { Nests self.now.levels (F.pre self.now.nested) (F.post self.now.nested) }
         ensures { Reads (spec.rel (allows self.now.levels) (inside self.now.listed self.now.levels) reader.old) result reader.new }
     {
-        let left = self.shift(reader)?;
+        let left = Held::new(self.shift(reader)?);
         let Some(op) = relating(reader.peek()) else {
-            return Ok(left);
+            return Ok(left.into_inner());
         };
         reader.take(true, 1)?;
         let right = self.shift(reader)?;
-        Ok(binary(self.alloc, op, left, right)?)
+        Ok(binary(self.alloc, op, left.into_inner(), right)?)
     }
 
     #[tactic(auto, using(parse_steps::proofs::Steps::terminal_seen), unfolding(crate::specs::Parsing::term))]
@@ -274,35 +279,37 @@ impl<F: Fn(Global, &mut Reader<'_>, u32) -> Result<Expr, Stop>> Rules<F> {
     }
 
     #[tactic(auto, using(parse_steps::proofs::Steps::terminal_seen), unfolding(crate::specs::Parsing::more_factors))]
-    fn more_factors(&self, reader: &mut Reader<'_>, mut left: Expr) -> Result<Expr, Stop>
+    fn more_factors(&self, reader: &mut Reader<'_>, left: Expr) -> Result<Expr, Stop>
         requires { Nests self.now.levels (F.pre self.now.nested) (F.post self.now.nested) }
         ensures { Reads (spec.more_factors (allows self.now.levels) (inside self.now.listed self.now.levels) left reader.old) result reader.new }
     {
+        let mut left = Held::new(left);
         for _turn in 0..reader.left() {
             let Some(op) = multiplying(reader.peek()) else {
-                return Ok(left);
+                return Ok(left.into_inner());
             };
             reader.take(true, 1)?;
             let right = self.factor(reader)?;
-            left = binary(self.alloc, op, left, right)?;
+            left = Held::new(binary(self.alloc, op, left.into_inner(), right)?);
         }
-        Ok(left)
+        Ok(left.into_inner())
     }
 
     #[tactic(auto, using(parse_steps::proofs::Steps::terminal_seen), unfolding(crate::specs::Parsing::more_terms))]
-    fn more_terms(&self, reader: &mut Reader<'_>, mut left: Expr) -> Result<Expr, Stop>
+    fn more_terms(&self, reader: &mut Reader<'_>, left: Expr) -> Result<Expr, Stop>
         requires { Nests self.now.levels (F.pre self.now.nested) (F.post self.now.nested) }
         ensures { Reads (spec.more_terms (allows self.now.levels) (inside self.now.listed self.now.levels) left reader.old) result reader.new }
     {
+        let mut left = Held::new(left);
         for _turn in 0..reader.left() {
             let Some(op) = adding(reader.peek()) else {
-                return Ok(left);
+                return Ok(left.into_inner());
             };
             reader.take(true, 1)?;
             let right = self.term(reader)?;
-            left = binary(self.alloc, op, left, right)?;
+            left = Held::new(binary(self.alloc, op, left.into_inner(), right)?);
         }
-        Ok(left)
+        Ok(left.into_inner())
     }
 
     #[tactic(auto, using(parse_steps::proofs::Steps::terminal_seen), unfolding(crate::specs::Parsing::arguments))]
@@ -342,15 +349,16 @@ impl<F: Fn(Global, &mut Reader<'_>, u32) -> Result<Expr, Stop>> Rules<F> {
         &self,
         reader: &mut Reader<'_>,
         word: Word,
-        op: Binary,
+        op: BinaryOperator,
         left: Expr,
     ) -> Result<Expr, Stop>
         requires { Nests self.now.levels (F.pre self.now.nested) (F.post self.now.nested) }
         ensures { Reads (spec.once (allows self.now.levels) (inside self.now.listed self.now.levels) (terminals.word word) op left reader.old) result reader.new }
     {
+        let left = Held::new(left);
         reader.expect_within(TokenKind::Word(word), true, 1)?;
         let right = self.rel(reader)?;
-        Ok(binary(self.alloc, op, left, right)?)
+        Ok(binary(self.alloc, op, left.into_inner(), right)?)
     }
 
     #[tactic(auto, using(parse_steps::proofs::Steps::terminal_seen), unfolding(crate::specs::Parsing::chain))]
@@ -358,7 +366,7 @@ impl<F: Fn(Global, &mut Reader<'_>, u32) -> Result<Expr, Stop>> Rules<F> {
         &self,
         reader: &mut Reader<'_>,
         word: Word,
-        op: Binary,
+        op: BinaryOperator,
         left: Expr,
     ) -> Result<Expr, Stop>
         requires { Nests self.now.levels (F.pre self.now.nested) (F.post self.now.nested) }
@@ -373,21 +381,22 @@ impl<F: Fn(Global, &mut Reader<'_>, u32) -> Result<Expr, Stop>> Rules<F> {
         &self,
         reader: &mut Reader<'_>,
         word: Word,
-        op: Binary,
-        mut left: Expr,
+        op: BinaryOperator,
+        left: Expr,
     ) -> Result<Expr, Stop>
         requires { Nests self.now.levels (F.pre self.now.nested) (F.post self.now.nested) }
         ensures { Reads (spec.more_links (allows self.now.levels) (inside self.now.listed self.now.levels) (terminals.word word) op left reader.old) result reader.new }
     {
+        let mut left = Held::new(left);
         for _turn in 0..reader.left() {
             if !reader.at(TokenKind::Word(word)) {
-                return Ok(left);
+                return Ok(left.into_inner());
             }
             reader.expect_within(TokenKind::Word(word), true, 1)?;
             let right = self.rel(reader)?;
-            left = binary(self.alloc, op, left, right)?;
+            left = Held::new(binary(self.alloc, op, left.into_inner(), right)?);
         }
-        Ok(left)
+        Ok(left.into_inner())
     }
 
     #[tactic(auto, using(parse_steps::proofs::Steps::terminal_seen), unfolding(crate::specs::Parsing::more_relations))]
@@ -396,22 +405,22 @@ impl<F: Fn(Global, &mut Reader<'_>, u32) -> Result<Expr, Stop>> Rules<F> {
         ensures { Reads (spec.more_relations (allows self.now.levels) (inside self.now.listed self.now.levels) left reader.old) result reader.new }
     {
         if reader.at(TokenKind::Word(Word::And)) {
-            return self.chain(reader, Word::And, Binary::And, left);
+            return self.chain(reader, Word::And, BinaryOperator::And, left);
         }
         if reader.at(TokenKind::Word(Word::Or)) {
-            return self.chain(reader, Word::Or, Binary::Or, left);
+            return self.chain(reader, Word::Or, BinaryOperator::Or, left);
         }
         if reader.at(TokenKind::Word(Word::Xor)) {
-            return self.chain(reader, Word::Xor, Binary::Xor, left);
+            return self.chain(reader, Word::Xor, BinaryOperator::Xor, left);
         }
         if reader.at(TokenKind::Word(Word::Xnor)) {
-            return self.chain(reader, Word::Xnor, Binary::Xnor, left);
+            return self.chain(reader, Word::Xnor, BinaryOperator::Xnor, left);
         }
         if reader.at(TokenKind::Word(Word::Nand)) {
-            return self.once(reader, Word::Nand, Binary::Nand, left);
+            return self.once(reader, Word::Nand, BinaryOperator::Nand, left);
         }
         if reader.at(TokenKind::Word(Word::Nor)) {
-            return self.once(reader, Word::Nor, Binary::Nor, left);
+            return self.once(reader, Word::Nor, BinaryOperator::Nor, left);
         }
         Ok(left)
     }

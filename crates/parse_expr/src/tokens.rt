@@ -5,7 +5,7 @@ ghost use Rattle.ams_tree.specs.Terminals as terminals;
 ghost use Rattle.parse_steps.specs.Reading.{from_next};
 
 use ams_token::{Mark, Place, Token, TokenKind, Word};
-use ams_tree::{Binary, Literal, LiteralValue, Name, Number, NumberValue, Unary};
+use ams_tree::{BinaryOperator, Literal, LiteralValue, Name, Number, NumberValue, UnaryOperator};
 
 #[tactic(auto, unfolding(ams_tree::specs::Terminals::name_of))]
 pub fn name_of(next: Option<Token>) -> Option<Name>
@@ -55,80 +55,80 @@ pub fn literal_of(next: Option<Token>) -> Option<Literal>
 }
 
 #[tactic(auto, unfolding(ams_tree::specs::Terminals::multiplying))]
-pub fn multiplying(next: Option<Token>) -> Option<Binary>
+pub fn multiplying(next: Option<Token>) -> Option<BinaryOperator>
     ensures { result ≡ from_next terminals.multiplying next }
 {
     match next?.kind {
-        TokenKind::Mark(Mark::Star) => Some(Binary::Multiply),
-        TokenKind::Mark(Mark::Slash) => Some(Binary::Divide),
-        TokenKind::Word(Word::Mod) => Some(Binary::Mod),
-        TokenKind::Word(Word::Rem) => Some(Binary::Rem),
+        TokenKind::Mark(Mark::Star) => Some(BinaryOperator::Multiply),
+        TokenKind::Mark(Mark::Slash) => Some(BinaryOperator::Divide),
+        TokenKind::Word(Word::Mod) => Some(BinaryOperator::Mod),
+        TokenKind::Word(Word::Rem) => Some(BinaryOperator::Rem),
         _ => None,
     }
 }
 
 #[tactic(auto, unfolding(ams_tree::specs::Terminals::adding))]
-pub fn adding(next: Option<Token>) -> Option<Binary>
+pub fn adding(next: Option<Token>) -> Option<BinaryOperator>
     ensures { result ≡ from_next terminals.adding next }
 {
     match next?.kind {
-        TokenKind::Mark(Mark::Plus) => Some(Binary::Add),
-        TokenKind::Mark(Mark::Minus) => Some(Binary::Subtract),
-        TokenKind::Mark(Mark::Ampersand) => Some(Binary::Concat),
+        TokenKind::Mark(Mark::Plus) => Some(BinaryOperator::Add),
+        TokenKind::Mark(Mark::Minus) => Some(BinaryOperator::Subtract),
+        TokenKind::Mark(Mark::Ampersand) => Some(BinaryOperator::Concat),
         _ => None,
     }
 }
 
 #[tactic(auto, unfolding(ams_tree::specs::Terminals::shifting))]
-pub fn shifting(next: Option<Token>) -> Option<Binary>
+pub fn shifting(next: Option<Token>) -> Option<BinaryOperator>
     ensures { result ≡ from_next terminals.shifting next }
 {
     match next?.kind {
-        TokenKind::Word(Word::Sll) => Some(Binary::ShiftLeftLogical),
-        TokenKind::Word(Word::Srl) => Some(Binary::ShiftRightLogical),
-        TokenKind::Word(Word::Sla) => Some(Binary::ShiftLeftArithmetic),
-        TokenKind::Word(Word::Sra) => Some(Binary::ShiftRightArithmetic),
-        TokenKind::Word(Word::Rol) => Some(Binary::RotateLeft),
-        TokenKind::Word(Word::Ror) => Some(Binary::RotateRight),
+        TokenKind::Word(Word::Sll) => Some(BinaryOperator::ShiftLeftLogical),
+        TokenKind::Word(Word::Srl) => Some(BinaryOperator::ShiftRightLogical),
+        TokenKind::Word(Word::Sla) => Some(BinaryOperator::ShiftLeftArithmetic),
+        TokenKind::Word(Word::Sra) => Some(BinaryOperator::ShiftRightArithmetic),
+        TokenKind::Word(Word::Rol) => Some(BinaryOperator::RotateLeft),
+        TokenKind::Word(Word::Ror) => Some(BinaryOperator::RotateRight),
         _ => None,
     }
 }
 
 #[tactic(auto, unfolding(ams_tree::specs::Terminals::relating))]
-pub fn relating(next: Option<Token>) -> Option<Binary>
+pub fn relating(next: Option<Token>) -> Option<BinaryOperator>
     ensures { result ≡ from_next terminals.relating next }
 {
     match next?.kind {
-        TokenKind::Mark(Mark::Equal) => Some(Binary::Equal),
-        TokenKind::Mark(Mark::NotEqual) => Some(Binary::NotEqual),
-        TokenKind::Mark(Mark::Less) => Some(Binary::Less),
-        TokenKind::Mark(Mark::LessEqual) => Some(Binary::LessEqual),
-        TokenKind::Mark(Mark::Greater) => Some(Binary::Greater),
-        TokenKind::Mark(Mark::GreaterEqual) => Some(Binary::GreaterEqual),
+        TokenKind::Mark(Mark::Equal) => Some(BinaryOperator::Equal),
+        TokenKind::Mark(Mark::NotEqual) => Some(BinaryOperator::NotEqual),
+        TokenKind::Mark(Mark::Less) => Some(BinaryOperator::Less),
+        TokenKind::Mark(Mark::LessEqual) => Some(BinaryOperator::LessEqual),
+        TokenKind::Mark(Mark::Greater) => Some(BinaryOperator::Greater),
+        TokenKind::Mark(Mark::GreaterEqual) => Some(BinaryOperator::GreaterEqual),
         _ => None,
     }
 }
 
 #[tactic(auto, unfolding(ams_tree::specs::Terminals::sign))]
-pub fn sign(next: Option<Token>) -> Option<(Unary, Place)>
+pub fn sign(next: Option<Token>) -> Option<(UnaryOperator, Place)>
     ensures { result ≡ from_next terminals.sign next }
 {
     let token = next?;
     match token.kind {
-        TokenKind::Mark(Mark::Plus) => Some((Unary::Plus, token.place)),
-        TokenKind::Mark(Mark::Minus) => Some((Unary::Minus, token.place)),
+        TokenKind::Mark(Mark::Plus) => Some((UnaryOperator::Plus, token.place)),
+        TokenKind::Mark(Mark::Minus) => Some((UnaryOperator::Minus, token.place)),
         _ => None,
     }
 }
 
 #[tactic(auto, unfolding(ams_tree::specs::Terminals::prefix))]
-pub fn prefix(next: Option<Token>) -> Option<(Unary, Place)>
+pub fn prefix(next: Option<Token>) -> Option<(UnaryOperator, Place)>
     ensures { result ≡ from_next terminals.prefix next }
 {
     let token = next?;
     match token.kind {
-        TokenKind::Word(Word::Abs) => Some((Unary::Abs, token.place)),
-        TokenKind::Word(Word::Not) => Some((Unary::Not, token.place)),
+        TokenKind::Word(Word::Abs) => Some((UnaryOperator::Abs, token.place)),
+        TokenKind::Word(Word::Not) => Some((UnaryOperator::Not, token.place)),
         _ => None,
     }
 }

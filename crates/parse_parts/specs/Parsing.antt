@@ -11,8 +11,8 @@ use Rattle.ams_tree.specs.declared.expression.Name.{Name}
 use Rattle.ams_tree.specs.declared.expression.Expr.{Expr}
 use Rattle.ams_tree.specs.declared.expression.Literal.{Literal}
 use Rattle.ams_tree.specs.declared.declaration.Range.{Range}
-use Rattle.ams_tree.specs.declared.sequential.Delay.{Delay}
-use Rattle.ams_tree.specs.declared.sequential.Delay.TheVariants as delay
+use Rattle.ams_tree.specs.declared.sequential.DelayMechanism.{DelayMechanism}
+use Rattle.ams_tree.specs.declared.sequential.DelayMechanism.TheVariants as delay
 use Rattle.ams_tree.specs.declared.sequential.WaveformElement.{WaveformElement}
 use Rattle.ams_tree.specs.declared.sequential.Assertion.{Assertion}
 use Rattle.ams_tree.specs.declared.sequential.BreakElement.{BreakElement}
@@ -90,19 +90,19 @@ module _ (limit n : ℕ) where
   names_on = choose (at (word w.On)) (one (word w.On) >> name_list) (pure [])
 
   -- "reject" expr "inertial"
-  unfoldable pub rejection : Parser Delay
+  unfoldable pub rejection : Parser DelayMechanism
   rejection = do
     place ← one (word w.Reject)
     limit_of ← expression limit n
     one (word w.Inertial)
     pure (delay.Reject place limit_of)
 
-  unfoldable pub delay_mechanism : Parser Delay
+  unfoldable pub delay_mechanism : Parser DelayMechanism
   delay_mechanism = choose (at (word w.Transport)) (one (word w.Transport) >>= (λ place. pure (delay.Transport place)))
       (choose (at (word w.Reject)) rejection (one (word w.Inertial) >>= (λ place. pure (delay.Inertial place))))
 
   -- [ delay ]
-  unfoldable pub maybe_delay : Parser (Option Delay)
+  unfoldable pub maybe_delay : Parser (Option DelayMechanism)
   maybe_delay = optional (at delaying) delay_mechanism
 
   -- [ "after" expr ]

@@ -6,6 +6,7 @@ ghost use Rattle.parse_parts.specs.Parsing as spec;
 use crate::tokens::begins_break;
 use ams_token::{Mark, TokenKind, Word};
 use ams_tree::{BreakElement, Expr};
+use held_value::Held;
 use parse_expr::{listed_name, outermost};
 use parse_steps::{Reader, Stop};
 use sqlite_items::Items;
@@ -20,12 +21,13 @@ fn broken(
 ) -> Result<BreakElement, Stop>
     ensures { Reads (spec.broken most_operators levels selector reader.old) result reader.new }
 {
-    let quantity = listed_name(alloc, reader, levels)?;
+    let selector = Held::new(selector);
+    let quantity = Held::new(listed_name(alloc, reader, levels)?);
     reader.expect(TokenKind::Mark(Mark::Arrow))?;
     let value = outermost(alloc, reader, levels)?;
     Ok(BreakElement {
-        selector,
-        quantity,
+        selector: selector.into_inner(),
+        quantity: quantity.into_inner(),
         value,
     })
 }
@@ -35,9 +37,9 @@ fn selected(alloc: Global, reader: &mut Reader<'_>, levels: u32) -> Result<Break
     ensures { Reads (spec.selected most_operators levels reader.old) result reader.new }
 {
     reader.expect(TokenKind::Word(Word::For))?;
-    let selector = listed_name(alloc, reader, levels)?;
+    let selector = Held::new(listed_name(alloc, reader, levels)?);
     reader.expect(TokenKind::Word(Word::Use))?;
-    broken(alloc, reader, levels, Some(selector))
+    broken(alloc, reader, levels, Some(selector.into_inner()))
 }
 
 #[tactic(auto, using(parse_steps::proofs::Steps::terminal_seen), unfolding(crate::specs::Parsing::break_element))]

@@ -9,6 +9,7 @@ use crate::lists::name;
 use crate::tokens::string_of;
 use ams_token::{Mark, Place, TokenKind, Word};
 use ams_tree::{Assertion, Expr, Literal, Name};
+use held_value::Held;
 use parse_expr::outermost;
 use parse_steps::{Reader, Stop};
 use std::alloc::Global;
@@ -64,13 +65,13 @@ pub fn assertion(alloc: Global, reader: &mut Reader<'_>, levels: u32) -> Result<
     ensures { Reads (spec.assertion most_operators levels reader.old) result reader.new }
 {
     let place = reader.expect(TokenKind::Word(Word::Assert))?;
-    let condition = outermost(alloc, reader, levels)?;
+    let condition = Held::new(outermost(alloc, reader, levels)?);
     let text = message(reader)?;
     let severity = severity(reader)?;
     reader.expect(TokenKind::Mark(Mark::Semicolon))?;
     Ok(Assertion {
         place,
-        condition,
+        condition: condition.into_inner(),
         text,
         severity,
     })

@@ -5,36 +5,41 @@ ghost use Rattle.parse_parts.specs.Parsing as spec;
 
 use crate::tokens::begins_delay;
 use ams_token::{Mark, TokenKind, Word};
-use ams_tree::{Delay, Expr, WaveformElement};
+use ams_tree::{DelayMechanism, Expr, WaveformElement};
+use held_value::Held;
 use parse_expr::outermost;
 use parse_steps::{Reader, Stop};
 use sqlite_items::Items;
 use std::alloc::Global;
 
 #[tactic(auto, using(parse_steps::proofs::Steps::terminal_seen), unfolding(crate::specs::Parsing::rejection))]
-fn rejection(alloc: Global, reader: &mut Reader<'_>, levels: u32) -> Result<Delay, Stop>
+fn rejection(alloc: Global, reader: &mut Reader<'_>, levels: u32) -> Result<DelayMechanism, Stop>
     ensures { Reads (spec.rejection most_operators levels reader.old) result reader.new }
 {
     let place = reader.expect(TokenKind::Word(Word::Reject))?;
-    let limit = outermost(alloc, reader, levels)?;
+    let limit = Held::new(outermost(alloc, reader, levels)?);
     reader.expect(TokenKind::Word(Word::Inertial))?;
-    Ok(Delay::Reject(place, limit))
+    Ok(DelayMechanism::Reject(place, limit.into_inner()))
 }
 
 /// How a signal takes its new values.
 #[tactic(auto, using(parse_steps::proofs::Steps::terminal_seen), unfolding(crate::specs::Parsing::delay_mechanism))]
-pub fn delay_mechanism(alloc: Global, reader: &mut Reader<'_>, levels: u32) -> Result<Delay, Stop>
+pub fn delay_mechanism(
+    alloc: Global,
+    reader: &mut Reader<'_>,
+    levels: u32,
+) -> Result<DelayMechanism, Stop>
     ensures { Reads (spec.delay_mechanism most_operators levels reader.old) result reader.new }
 {
     if reader.at(TokenKind::Word(Word::Transport)) {
         let place = reader.expect(TokenKind::Word(Word::Transport))?;
-        return Ok(Delay::Transport(place));
+        return Ok(DelayMechanism::Transport(place));
     }
     if reader.at(TokenKind::Word(Word::Reject)) {
         return rejection(alloc, reader, levels);
     }
     let place = reader.expect(TokenKind::Word(Word::Inertial))?;
-    Ok(Delay::Inertial(place))
+    Ok(DelayMechanism::Inertial(place))
 }
 
 /// A delay, where one is written.
@@ -43,7 +48,7 @@ pub fn maybe_delay(
     alloc: Global,
     reader: &mut Reader<'_>,
     levels: u32,
-) -> Result<Option<Delay>, Stop>
+) -> Result<Option<DelayMechanism>, Stop>
     ensures { Reads (spec.maybe_delay most_operators levels reader.old) result reader.new }
 {
     if !begins_delay(reader.peek()) {
@@ -71,9 +76,12 @@ fn waveform_element(
 ) -> Result<WaveformElement, Stop>
     ensures { Reads (spec.waveform_element most_operators levels reader.old) result reader.new }
 {
-    let value = outermost(alloc, reader, levels)?;
+    let value = Held::new(outermost(alloc, reader, levels)?);
     let after = after(alloc, reader, levels)?;
-    Ok(WaveformElement { value, after })
+    Ok(WaveformElement {
+        value: value.into_inner(),
+        after,
+    })
 }
 
 #[tactic(auto, using(parse_steps::proofs::Steps::terminal_seen), unfolding(crate::specs::Parsing::more_elements))]

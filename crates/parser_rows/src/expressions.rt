@@ -1,9 +1,11 @@
 //! Short texts and where they end, and texts past the limits.
 
 ghost use Rattle.std.specs.Prelude.{◌≤◌};
+ghost use Rattle.parse_steps.specs.Reply.{most_levels};
 
-use crate::expression;
-use ams_token::{Integer, Mark, Names, Place, Token, TokenKind, Tokens, Word};
+use crate::tokens::tokens_of;
+use ams_token::{Integer, Mark, TokenKind, Word};
+use parse_expr::expression;
 use parse_steps::ParseFault;
 use std::alloc::{AllocError, Global};
 use std::test::Fail;
@@ -40,20 +42,9 @@ fn end(
     kinds: &[TokenKind],
     depth: u32,
 ) -> Result<Result<usize, ParseFault>, AllocError>
-    requires { depth ≤ 64 }
+    requires { depth ≤ most_levels }
 {
-    let mut list = Vec::new(alloc);
-    let end = Place { line: 1, column: 1 };
-    for kind in kinds {
-        list.push(Token {
-            kind: *kind,
-            place: end,
-            from: 0,
-            to: 0,
-        })?;
-    }
-    let names = Names::new(alloc)?;
-    let tokens = Tokens { list, names, end };
+    let tokens = tokens_of(alloc, kinds)?;
     Ok(expression(alloc, &tokens, 0, depth).map(|found| found.1))
 }
 
