@@ -1,0 +1,4 @@
+pub mod Each
+pub mod Counts
+pub mod Ways
+pub mod Worked

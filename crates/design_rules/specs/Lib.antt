@@ -1,0 +1,9 @@
+pub mod Ways
+pub mod Types
+pub mod Choices
+pub mod Equations
+pub mod Statements
+pub mod Design
+pub mod Rows
+pub mod Building
+pub mod Worked
