@@ -1,0 +1,4 @@
+pub mod Resumed
+pub mod Held
+pub mod Kept
+pub mod InText
