@@ -1,5 +1,5 @@
 -- A run stays in the text of its process.
-use Rattle.std.proofs.Common.{◌≡◌, refl, sym, subst, ℕ, List, [], ◌++◌}
+use Rattle.std.proofs.Common.{◌≡◌, refl, sym, subst, List, [], ◌++◌}
 use Rattle.flat_expr.specs.declared.statement.Statement.{Statement, out-Statement}
 use Rattle.cycle_meaning.specs.Task.{Task}
 use Rattle.cycle_meaning.specs.World.{Context, Local}

@@ -1,15 +1,13 @@
 -- The variables that a process sees are those of the state between cycles.
-use Rattle.std.specs.Prelude.{◌≡◌, ◌<◌, ◌⊎◌, ℕ, ◌+◌, true, false, not, ◌&&◌, if◌then◌else◌, nat_eq, ℤ, List, [], ◌∷◌, length, Option, Some}
+use Rattle.std.specs.Prelude.{◌≡◌, ◌<◌, ℕ, ◌+◌, true, false, not, ◌&&◌, if◌then◌else◌, nat_eq, ℤ, List, [], ◌∷◌, length, Option, Some}
 use Rattle.std.specs.List.{slice_get, list_any}
 use Rattle.ams_value.specs.declared.val.Val.{Val}
 use Rattle.ams_value.specs.declared.val.Val.TheVariants as val
 use Rattle.flat_expr.specs.declared.statement.Statement.{Statement}
-use Rattle.flat_expr.specs.declared.statement.Statement.TheOpen.{Statement-F}
-use Rattle.flat_design.specs.declared.objects.PathStep.{PathStep}
 use Rattle.flat_design.specs.declared.objects.Variable.{Variable}
 use Rattle.flat_design.specs.declared.objects.Process.{Process}
 use Rattle.step_model.specs.System.{ProcessState}
-use Rattle.cycle_meaning.specs.Task.{Task, statement, again, first_turn, next_turn, statements, Layer}
+use Rattle.cycle_meaning.specs.Task.{Task, statement, again, first_turn, next_turn, statements}
 use Rattle.cycle_meaning.specs.World.{World, Context, Local}
 use Rattle.cycle_meaning.specs.Processes.{stopped, run, state_of, left_behind, variables_at, parameters_at}
 use Rattle.cycle_meaning.specs.Cycles.{local_of}
