@@ -1,20 +1,18 @@
 -- The system that a flat design with its options is.
-use Rattle.std.specs.Prelude.{ℕ, ◌+◌, ◌&&◌, nat_eq, nat_lt, nat_le, Bool, true, false, ℤ, pos, List, [], ◌∷◌, ◌++◌, length, map, replicate, Option, Some, None}
+use Rattle.std.specs.Prelude.{ℕ, ◌+◌, ◌&&◌, nat_eq, nat_lt, Bool, true, false, ℤ, pos, List, [], ◌∷◌, ◌++◌, length, map, replicate, Option, Some, None}
 use Rattle.std.specs.List.{slice_get, list_any}
 use Rattle.ams_value.specs.declared.val.Val.{Val}
-use Rattle.ams_value.specs.declared.val.Val.TheVariants as val
+use Rattle.ams_value.specs.declared.value_type.ValueType.{ValueType}
 use Rattle.ams_value.specs.declared.value_type.ValueType.TheVariants.{Boolean, Enumeration}
-use Rattle.ams_value.specs.Types.{type_of}
+use Rattle.ams_value.specs.Types.{type_of, is_in_range}
 use Rattle.flat_expr.specs.declared.expr.SignalName.{SignalName}
 use Rattle.flat_expr.specs.declared.expr.SignalName.TheVariants as name
 use Rattle.flat_design.specs.declared.objects.Signal.{Signal}
-use Rattle.flat_design.specs.declared.objects.Enumeration.{Enumeration as EnumerationType}
 use Rattle.flat_design.specs.declared.objects.Objects.{Objects}
+use Rattle.flat_design.specs.Lists.{enumeration_sizes}
 use Rattle.flat_design.specs.Reads.{frame_of}
 use Rattle.flat_design.specs.Order.{unknown_count}
 use Rattle.step_data.specs.declared.breaks.Element.{Element}
-use Rattle.step_data.specs.declared.event.Event.{Event}
-use Rattle.step_data.specs.declared.event.Event.TheVariants as event
 use Rattle.step_data.specs.declared.outcome.Options.{Options}
 use Rattle.step_model.specs.System.{System}
 use Rattle.design_meaning.specs.Typed.{same_type}
@@ -23,15 +21,23 @@ use Rattle.cycle_meaning.specs.Cycles.{start, cycle, next_time, frame, threshold
 
 -- ---- the types of a frame's places
 
-abbrev pub is_signal_value : Option Signal → Val → Bool
-is_signal_value (Some s) v = same_type (type_of v) s.kind
-is_signal_value None v = false
+-- a value lies in the range of its type, and can be printed
+abbrev pub is_printable : Objects → Val → Bool
+is_printable objects v = is_in_range (enumeration_sizes objects) v
+
+-- a value is of this type, and in its range
+abbrev pub is_of_type : Objects → ValueType → Val → Bool
+is_of_type objects k v = same_type (type_of v) k && is_in_range (enumeration_sizes objects) v
+
+abbrev pub is_signal_value : Objects → Option Signal → Val → Bool
+is_signal_value objects (Some s) v = is_of_type objects s.kind v
+is_signal_value objects None v = false
 
 -- a value is of the type of this signal; DOMAIN_TYPE is enumeration type 0
 abbrev pub is_value_of : Objects → SignalName → Val → Bool
-is_value_of objects (name.Signal i) v = is_signal_value (slice_get objects.signals i) v
-is_value_of objects (name.Threshold k) v = same_type (type_of v) Boolean
-is_value_of objects name.Domain v = same_type (type_of v) (Enumeration 0)
+is_value_of objects (name.Signal i) v = is_signal_value objects (slice_get objects.signals i) v
+is_value_of objects (name.Threshold k) v = is_of_type objects Boolean v
+is_value_of objects name.Domain v = is_of_type objects (Enumeration 0) v
 
 abbrev pub are_values_of : Objects → List SignalName → List Val → Bool
 are_values_of objects [] [] = true
@@ -39,25 +45,11 @@ are_values_of objects [] (v ∷ vs) = false
 are_values_of objects (s ∷ names) [] = false
 are_values_of objects (s ∷ names) (v ∷ vs) = is_value_of objects s v && are_values_of objects names vs
 
--- ---- break elements and events of the design
+-- ---- break elements of the design
 
 -- the selector is a differentiated quantity
 abbrev pub is_element : Objects → Element → Bool
 is_element objects e = list_any (nat_eq e.selector) objects.dots && nat_lt e.quantity (length objects.quantities)
-
-abbrev pub has_literal : Option EnumerationType → ℕ → Bool
-has_literal (Some e) position = nat_lt position (length e.literals)
-has_literal None position = false
-
-abbrev pub is_printable : Objects → Val → Bool
-is_printable objects (val.Enum number position) = has_literal (slice_get objects.enumerations number) position
-is_printable objects (val.Bits length content) = nat_le length 64
-is_printable objects _ = true
-
-abbrev pub is_event : Objects → Event → Bool
-is_event objects (event.Signal t n i v) = is_printable objects v
-is_event objects (event.Report t n severity text) = nat_le severity 3
-is_event objects _ = true
 
 -- ---- the start values and the budgets
 
@@ -65,14 +57,17 @@ is_event objects _ = true
 abbrev pub initial_values : Objects → List ℤ
 initial_values objects = map (λ q. q.initial) objects.quantities ++ replicate (length objects.nodes + length objects.dots) (pos 0)
 
-unfoldable pub delta_limit : ℕ
-delta_limit = 1000
+-- the most deltas at one time
+unfoldable pub delta_budget : ℕ
+delta_budget = 1000
 
-unfoldable pub cycle_limit : ℕ
-cycle_limit = 200000
+-- the most cycles
+unfoldable pub cycle_budget : ℕ
+cycle_budget = 200000
 
-unfoldable pub try_limit : ℕ
-try_limit = 200000
+-- the most attempts, side steps and probes together
+unfoldable pub try_budget : ℕ
+try_budget = 200000
 
 -- ---- the system
 
@@ -84,7 +79,7 @@ system_of objects options =
       choices = length (selections_of objects.equations);
       is_frame = are_values_of objects (frame_of objects);
       is_element = is_element objects;
-      is_event = is_event objects;
+      is_printable = is_printable objects;
       initial = initial_values objects;
       trial = trial objects options;
       settle = settle objects options;
@@ -96,7 +91,11 @@ system_of objects options =
       thresholds = thresholds objects;
       breaks = breaks;
       options = options;
-      deltas = delta_limit;
-      cycles = cycle_limit;
-      tries = try_limit;
+      deltas = delta_budget;
+      cycles = cycle_budget;
+      tries = try_budget;
     }
+
+-- a design names a system for each part; it has one part, which is the whole
+abbrev pub systems_of : Objects → Options → ℕ → System
+systems_of objects options part = system_of objects options
