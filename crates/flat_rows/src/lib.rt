@@ -1,0 +1,5 @@
+//! The calls of a flat design, used to build one.
+#![tactic(auto)]
+
+#[cfg(test)]
+mod tests;
