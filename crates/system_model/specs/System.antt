@@ -17,7 +17,7 @@ use Rattle.step_data.specs.declared.outcome.Options.{Options}
 use Rattle.step_model.specs.System.{System}
 use Rattle.design_meaning.specs.Typed.{same_type}
 use Rattle.design_meaning.specs.Steps.{choose, trial, settle, selections_of}
-use Rattle.cycle_meaning.specs.Cycles.{start, cycle, next_time, frame, thresholds, breaks}
+use Rattle.cycle_meaning.specs.Cycles.{first_digital, start, cycle, next_time, frame, thresholds, breaks}
 
 -- ---- the types of a frame's places
 
@@ -84,6 +84,7 @@ system_of objects options =
       trial = trial objects options;
       settle = settle objects options;
       choose = choose objects;
+      unstarted = first_digital objects;
       start = start objects;
       cycle = cycle objects;
       next_time = next_time;
