@@ -1,5 +1,5 @@
 -- The numbers of rows.
-use Rattle.std.proofs.Common.{◌≡◌, refl, ap, sym, ◌∙◌, ℕ, zero, suc, ◌+◌, ◌<◌, ◌≤◌, ℤ, List, [], ◌∷◌, ◌++◌, length, map, arith, length-append, subst, Bool, true, false, IfOk, IfSome}
+use Rattle.std.proofs.Common.{◌≡◌, refl, ap, ◌∙◌, ℕ, zero, suc, ◌+◌, ◌<◌, ◌≤◌, List, [], ◌∷◌, ◌++◌, length, map, arith, length-append, subst, Bool, true, false, IfOk, IfSome}
 use Rattle.std.proofs.lemmas.List.{length-map}
 use Rattle.std.proofs.lemmas.List.Elements.{All-head}
 use Rattle.std.proofs.lemmas.List.FromFn.{length-map-range_with_len, length-enumerate_from}
@@ -13,7 +13,6 @@ use Rattle.flat_design.specs.declared.objects.IfArm.{IfArm}
 use Rattle.flat_design.specs.declared.objects.CaseArm.{CaseArm}
 use Rattle.flat_design.specs.declared.objects.Selection.{Selection}
 use Rattle.flat_design.specs.declared.objects.Selection.TheVariants as selection
-use Rattle.flat_design.specs.declared.objects.Choice.{Choice}
 use Rattle.flat_design.specs.declared.objects.Equation.{Equation}
 use Rattle.flat_design.specs.declared.objects.Equation.TheVariants as equation
 use Rattle.flat_design.specs.declared.objects.Quantity.{Quantity}

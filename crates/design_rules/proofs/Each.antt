@@ -1,9 +1,8 @@
 -- A rule for each statement of a text, statement by statement.
 use Rattle.std.proofs.Common.{◌≡◌, refl, ap, sym, ◌∙◌, subst, ℕ, zero, suc, ◌⊎◌, inl, inr, ⊎_elim, List, [], ◌∷◌, ◌++◌, length, append_assoc, append-nil, Option, Some, None, slice_get, arith}
 use Rattle.flat_expr.specs.declared.statement.Statement.{Statement, out-Statement}
-use Rattle.flat_design.specs.declared.objects.PathStep.{PathStep}
 use Rattle.cycle_meaning.specs.Task.{Layer}
-use Rattle.design_rules.specs.Ways.{layer_of, layer_at, parameter_in, LeadsTo, EachStatement}
+use Rattle.design_rules.specs.Ways.{layer_of, layer_at, parameter_in, EachStatement}
 use Rattle.design_rules.specs.Building.{EachIn, HoldsAt, WholeIsAllowed, NoneIsAllowed, OneMoreIsAllowed}
 use Rattle.design_rules.specs.Statements.{IsAllowed}
 

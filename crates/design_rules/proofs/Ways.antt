@@ -1,11 +1,11 @@
 -- The ways to wait statements, and the parameters of loops, statement by statement.
-use Rattle.std.proofs.Common.{◌≡◌, ap, sym, ◌∙◌, subst, ℕ, zero, suc, ⊎_elim, List, [], ◌∷◌, ◌++◌, length, append_assoc, append-nil, Option, Some, None, slice_get, arith}
+use Rattle.std.proofs.Common.{◌≡◌, ap, sym, ◌∙◌, subst, ℕ, zero, suc, ⊎_elim, List, [], ◌∷◌, ◌++◌, length, append_assoc, append-nil, Some, slice_get, arith}
 use Rattle.flat_expr.specs.declared.statement.Statement.TheOpen.{Statement-F}
 use Rattle.flat_design.specs.declared.objects.PathStep.{PathStep}
 use Rattle.flat_design.specs.declared.objects.WaitPlace.{WaitPlace}
 use Rattle.cycle_meaning.specs.Task.{Layer}
 use Rattle.design_rules.specs.Ways.{parameter_in, way_to, IsSafe}
-use Rattle.design_rules.specs.Building.{AreRightIn, IsPlaced, IsRightAt, WholeIsRight, NoneIsRight, OneMoreIsRight, MoreWaitsAreRight, WholeIsSafe, NoneIsSafe, OneMoreIsSafe}
+use Rattle.design_rules.specs.Building.{IsPlaced, IsRightAt, WholeIsRight, NoneIsRight, OneMoreIsRight, MoreWaitsAreRight, WholeIsSafe, NoneIsSafe, OneMoreIsSafe}
 use Rattle.design_rules.proofs.Each.{old_or_last, nothing_there, whole_each, none_each, one_more_each}
 
 pub whole_is_right : WholeIsRight

@@ -1,5 +1,5 @@
 -- The worked design keeps each promise.
-use Rattle.std.proofs.Common.{◌≡◌, ◌<◌, ◌≤◌, refl, ap, sym, ◌∙◌, subst, ℕ, zero, suc, ◌+◌, pos, Bool, true, false, IsTrue, inl, List, [], ◌∷◌, ◌++◌, length, Option, Some, None, arith}
+use Rattle.std.proofs.Common.{◌≡◌, ◌<◌, ◌≤◌, refl, ap, sym, ◌∙◌, subst, ℕ, zero, suc, pos, Bool, true, false, IsTrue, List, [], ◌∷◌, ◌++◌, length, Option, Some, None, arith}
 use Rattle.std.specs.Prelude.{codes, if◌then◌else◌}
 use Rattle.std.specs.List.{All}
 use Rattle.std.proofs.lemmas.List.Elements.{All-nil, All-cons}
@@ -7,44 +7,31 @@ use Rattle.ams_value.specs.declared.val.Val.{Val}
 use Rattle.ams_value.specs.declared.val.Val.TheVariants as val
 use Rattle.ams_value.specs.declared.value_type.ValueType.{ValueType}
 use Rattle.ams_value.specs.declared.value_type.ValueType.TheVariants as kind
-use Rattle.ams_value.specs.Types.{type_of}
-use Rattle.flat_expr.specs.declared.expr.SignalName.{SignalName}
 use Rattle.flat_expr.specs.declared.expr.SignalName.TheVariants.{Signal}
-use Rattle.flat_expr.specs.declared.expr.Direction.{Direction}
 use Rattle.flat_expr.specs.declared.expr.Direction.TheVariants.{To}
 use Rattle.flat_expr.specs.declared.expr.Unknown.{Unknown}
 use Rattle.flat_expr.specs.declared.expr.Unknown.TheVariants as unknown
-use Rattle.flat_expr.specs.declared.expr.FlatExpr.{FlatExpr}
 use Rattle.flat_expr.specs.declared.expr.FlatExpr.TheOpen.{FlatExpr-F}
 use Rattle.flat_expr.specs.declared.expr.FlatExpr.TheVariants as e
 use Rattle.flat_expr.specs.declared.expr.FlatExpr.TheVariants.{rolls-Literal, rolls-Unknown}
 use Rattle.flat_expr.specs.declared.expr.FlatExpr.TheFolds.{fold-FlatExpr, fold-roll-FlatExpr}
 use Rattle.flat_expr.specs.declared.subtype.Constraint.TheVariants.{Whole}
 use Rattle.flat_expr.specs.declared.statement.DelayMechanism.TheVariants.{Transport}
-use Rattle.flat_expr.specs.declared.statement.BreakElement.{BreakElement}
-use Rattle.flat_expr.specs.declared.statement.WaveElement.{WaveElement}
 use Rattle.flat_expr.specs.declared.statement.Statement.{Statement, out-Statement}
 use Rattle.flat_expr.specs.declared.statement.Statement.TheOpen.{Statement-F}
 use Rattle.flat_expr.specs.declared.statement.Statement.TheViews.{out-roll-Statement}
 use Rattle.flat_expr.specs.declared.statement.Statement.TheVariants as s
 use Rattle.flat_expr.specs.declared.statement.Statement.TheVariants.{rolls-For, rolls-Wait, rolls-SignalAssignment, rolls-Break}
-use Rattle.flat_design.specs.declared.objects.Pair.{Pair as Sides}
-use Rattle.flat_design.specs.declared.objects.Variable.{Variable}
-use Rattle.flat_design.specs.declared.objects.Signal.{Signal as SignalObject}
 use Rattle.flat_design.specs.declared.objects.PathStep.{PathStep}
 use Rattle.flat_design.specs.declared.objects.WaitPlace.{WaitPlace}
-use Rattle.flat_design.specs.declared.objects.Process.{Process}
-use Rattle.flat_design.specs.declared.objects.Objects.{Objects}
 use Rattle.flat_design.specs.declared.objects.Equation.TheVariants.{Pair}
 use Rattle.flat_design.specs.Limits.{frame_limit}
-use Rattle.flat_design.specs.Flat.{HasNumbers}
 use Rattle.flat_design.specs.Reads.{is_read, frame_of}
-use Rattle.design_meaning.specs.Typed.{Scope, type_at, typed, HasType, IsOfType}
+use Rattle.design_meaning.specs.Typed.{Scope, type_at, HasType}
 use Rattle.cycle_meaning.specs.Task.{Layer}
-use Rattle.cycle_meaning.specs.World.{drives}
-use Rattle.design_rules.specs.Ways.{layer_of, layer_at, EachStatement, AreWaysRight, AreParametersSafe, IsSafe}
-use Rattle.design_rules.specs.Types.{process_scope, equation_scope, named_at, variables_named, IsVisible, IsExpression, IsDeclaredAs}
-use Rattle.design_rules.specs.Equations.{IsPair, stands_at, stands_in, is_in_equations, IsSelector, IsEquation}
+use Rattle.design_rules.specs.Ways.{EachStatement, AreWaysRight, AreParametersSafe, IsSafe}
+use Rattle.design_rules.specs.Types.{process_scope, equation_scope, named_at, IsVisible, IsExpression}
+use Rattle.design_rules.specs.Equations.{IsPair, stands_at, is_in_equations, IsEquation}
 use Rattle.design_rules.specs.Statements.{IsAllowed, IsWaveElement, IsSignalAssignment, IsForLoop, IsSignalName, IsBreakElement}
 use Rattle.design_rules.specs.Building.{EachIn, HoldsAt, AreRightIn, IsRightAt}
 use Rattle.design_rules.specs.Design.{IsEnumeration, IsSignal, IsQuantity, IsThreshold, IsRamp, IsVariable, AreDriversUsed, IsProcess, IsSolvable, KeepsLimits, literal_limit, domain_type}

@@ -1,5 +1,5 @@
 -- The choices of a case, sequential or simultaneous (IEEE 1076, 10.9).
-use Rattle.std.specs.Prelude.{◌≡◌, ◌≤◌, ◌⊎◌, ◌≢◌, ℕ, Bool, IsTrue, List}
+use Rattle.std.specs.Prelude.{◌≤◌, ◌⊎◌, ◌≢◌, ℕ, Bool, IsTrue, List}
 use Rattle.std.specs.List.{list_any, All, AllPairs, count_by}
 use Rattle.ams_value.specs.declared.val.Val.{Val}
 use Rattle.ams_value.specs.declared.value_type.ValueType.{ValueType}

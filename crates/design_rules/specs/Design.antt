@@ -1,5 +1,5 @@
 -- Well-formed flat designs: what elaboration promises, and solver, kernel and engine may ask.
-use Rattle.std.specs.Prelude.{◌≡◌, ◌≤◌, ◌<◌, ℕ, ◌+◌, ◌≢◌, true, false, IsTrue, List, [], ◌∷◌, length, codes, Option, Some}
+use Rattle.std.specs.Prelude.{◌≡◌, ◌≤◌, ◌<◌, ℕ, ◌+◌, ◌≢◌, true, false, IsTrue, List, [], ◌∷◌, length, codes, Some}
 use Rattle.std.specs.List.{slice_get, flat_map, All, AllPairs}
 use Rattle.fix_core.specs.Fixed.{IsInRange}
 use Rattle.ams_value.specs.declared.value_type.ValueType.TheVariants.{Integer}

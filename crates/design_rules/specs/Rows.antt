@@ -6,7 +6,7 @@ use Rattle.flat_design.specs.declared.objects.Selection.TheVariants as selection
 use Rattle.flat_design.specs.declared.objects.Equation.{Equation}
 use Rattle.flat_design.specs.declared.objects.Equation.TheVariants as equation
 use Rattle.flat_design.specs.declared.objects.Objects.{Objects}
-use Rattle.flat_design.specs.Order.{unknown_count, unknowns}
+use Rattle.flat_design.specs.Order.{unknowns}
 use Rattle.step_data.specs.declared.breaks.Element.{Element}
 use Rattle.step_data.specs.declared.outcome.ChooseKind.{ChooseKind}
 use Rattle.design_meaning.specs.Equations.{Augmentation, rows_of}

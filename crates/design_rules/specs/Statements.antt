@@ -1,5 +1,5 @@
 -- What is asked of the statements of a process (IEEE 1076, clause 10; break: IEEE 1076.1).
-use Rattle.std.specs.Prelude.{◌≡◌, ◌<◌, ◌≢◌, ℕ, false, true, nat_eq, IsTrue, List, map, length, Option, Some, None, IfSome}
+use Rattle.std.specs.Prelude.{◌≡◌, ◌<◌, ◌≢◌, ℕ, false, true, IsTrue, List, map, length, Option, Some, None, IfSome}
 use Rattle.std.specs.List.{slice_get, flat_map, All}
 use Rattle.ams_value.specs.declared.value_type.ValueType.{ValueType}
 use Rattle.ams_value.specs.declared.value_type.ValueType.TheVariants.{Boolean, Integer, Real, Time}

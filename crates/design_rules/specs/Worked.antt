@@ -1,5 +1,5 @@
 -- A well-formed design: a quantity whose slope is 1.0e6, and a process that waits twice in a loop, assigns a signal and breaks.
-use Rattle.std.specs.Prelude.{ℕ, pos, List, [], ◌∷◌, codes, None, true, false}
+use Rattle.std.specs.Prelude.{pos, [], ◌∷◌, codes, None, true, false}
 use Rattle.ams_value.specs.declared.val.Val.TheVariants as val
 use Rattle.ams_value.specs.declared.value_type.ValueType.TheVariants as kind
 use Rattle.flat_expr.specs.declared.expr.SignalName.TheVariants.{Signal}

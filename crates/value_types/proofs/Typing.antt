@@ -1,6 +1,6 @@
 -- The value of a well-typed expression is of its type, by induction on the expression.
 use Rattle.std.proofs.Common.{◌≡◌, ◌≤◌, ℕ, pos, Bool, true, false, slice_get, Option, Some, None, Result, Ok, Err, IfOk, IsTrue, List, arith, refl, sym, ◌∙◌, subst}
-use Rattle.std.specs.Prelude.{unsigned_abs, nat_lt, nat_le, IsSome}
+use Rattle.std.specs.Prelude.{unsigned_abs, nat_eq, nat_lt, nat_le, ◌||◌, IsSome}
 use Rattle.std.proofs.lemmas.Bool.Decides.{nat_tests}
 use Rattle.fix_core.specs.Passes.{and_then}
 use Rattle.fix_core.specs.Fixed.{ranged}
@@ -27,10 +27,13 @@ use Rattle.flat_expr.specs.declared.expr.FlatExpr.TheOpen.{FlatExpr-F}
 use Rattle.flat_expr.specs.declared.expr.FlatExpr.TheFolds.{map-FlatExpr, fold-roll-FlatExpr, ind-FlatExpr}
 use Rattle.design_meaning.specs.declared.fault.EvalFault.{EvalFault}
 use Rattle.design_meaning.specs.Faults.{operated}
-use Rattle.design_meaning.specs.Readings.{Readings, unknown_of, variable_of}
+use Rattle.flat_expr.specs.declared.expr.SignalName.{SignalName}
+use Rattle.flat_expr.specs.declared.expr.SignalName.TheVariants as name
+use Rattle.flat_expr.specs.Expr.{same_signal, reads_at, reads_in}
+use Rattle.design_meaning.specs.Readings.{Readings, unknown_of, variable_of, seen_of}
 use Rattle.design_meaning.specs.Value.{Meaning, meaning_at, meaning_of, value_of, unless_decided, called, element}
 use Rattle.design_meaning.specs.Typed.{Scope, typed, type_at, if_true, agreed, event_type, signal_type, unknown_type, unary_result, binary_result, call_type, element_type, IsOfType, Reads}
-use Rattle.value_types.specs.Typing.{ValuesAreTyped}
+use Rattle.value_types.specs.Typing.{ReadsFor, ReadValuesAreTyped, ValuesAreTyped}
 use Rattle.value_types.proofs.Functions.{ok_then, at_most, ranged_in}
 use Rattle.value_types.proofs.Types.{if_true_is, agreed_is, read_at, seen_typed, decided_typed, real_typed, from_number, called_typed, element_typed}
 
@@ -73,24 +76,52 @@ decided_ok sizes o s t k x None further is h of more = more
 -- ---- the induction
 
 -- what is shown of an expression
+abbrev Gives : Scope → Readings → FlatExpr → Type 0
+Gives scope r e = (k : ValueType) → typed scope e ≡ Some k → IfOk (value_of e r) (IsOfType scope.enumerations k)
+
+-- each signal that these read has a value of its type
+abbrev Sees : Scope → Readings → (SignalName → Bool) → Type 0
+Sees scope r reads = (s : SignalName) (k : ValueType) → reads s ≡ true → signal_type scope s ≡ Some k → IsOfType scope.enumerations k (seen_of r s).value
+
+abbrev reads_of : FlatExpr → SignalName → Bool
+reads_of e s = reads_in s e
+
 abbrev Goes : Scope → Readings → FlatExpr → Type 0
-Goes scope r e = (k : ValueType) → typed scope e ≡ Some k → IfOk (value_of e r) (IsOfType scope.enumerations k)
+Goes scope r e = Sees scope r (reads_of e) → Gives scope r e
 
 abbrev Part : Scope → Readings → Type 0
 Part scope r = (e : FlatExpr) × Goes scope r e
 
-lift : (scope : Scope) (r : Readings) (x : FlatExpr-F FlatExpr) (t : Option ValueType) (m : Meaning) → typed scope (roll-FlatExpr x) ≡ t → meaning_of (roll-FlatExpr x) ≡ m
-    → ((k : ValueType) → t ≡ Some k → IfOk (m.value r) (IsOfType scope.enumerations k)) → Goes scope r (roll-FlatExpr x)
-lift scope r x t m et em h k is = subst (λ (z : Meaning). IfOk (z.value r) (IsOfType scope.enumerations k)) (sym em) (h k (sym et ∙ is))
+lift : (scope : Scope) (r : Readings) (x : FlatExpr-F FlatExpr) (t : Option ValueType) (m : Meaning) (f : SignalName → Bool)
+    → typed scope (roll-FlatExpr x) ≡ t → meaning_of (roll-FlatExpr x) ≡ m → ((s : SignalName) → reads_in s (roll-FlatExpr x) ≡ f s)
+    → (Sees scope r f → (k : ValueType) → t ≡ Some k → IfOk (m.value r) (IsOfType scope.enumerations k)) → Goes scope r (roll-FlatExpr x)
+lift scope r x t m f et em ef h sees k is =
+    subst (λ (z : Meaning). IfOk (z.value r) (IsOfType scope.enumerations k)) (sym em) (h (λ s j on known. sees s j (ef s ∙ on) known) k (sym et ∙ is))
 
-unary_goes : (scope : Scope) (r : Readings) (o : UnaryOperator) (a : FlatExpr) (k : ValueType) (t : Option ValueType) → typed scope a ≡ t → Goes scope r a → unary_result o t ≡ Some k
+or_left : (p q : Bool) → p ≡ true → (p || q) ≡ true
+or_left true q h = refl
+or_left false q h = absurd (cc)
+
+or_right : (p q : Bool) → q ≡ true → (p || q) ≡ true
+or_right true q h = refl
+or_right false q h = h
+
+same_number : (i : ℕ) → nat_eq i i ≡ true
+same_number i = grind (arith, nat_tests)
+
+same_name : (s : SignalName) → same_signal s s ≡ true
+same_name (name.Signal i) = same_number i
+same_name (name.Threshold i) = same_number i
+same_name name.Domain = refl
+
+unary_goes : (scope : Scope) (r : Readings) (o : UnaryOperator) (a : FlatExpr) (k : ValueType) (t : Option ValueType) → typed scope a ≡ t → Gives scope r a → unary_result o t ≡ Some k
     → IfOk ((meaning_at (FlatExpr-F.Unary o k (meaning_of a))).value r) (IsOfType scope.enumerations k)
 unary_goes scope r o a k (Some t) is goes h =
     ok_then (IsOfType scope.enumerations t) (IsOfType scope.enumerations k) (λ x. operated (unary_of o x)) (value_of a r) (goes t is) (λ x of. unary_ok scope.enumerations o t k x h of)
 unary_goes scope r o a k None is goes h = absurd (cc)
 
 binary_goes : (scope : Scope) (r : Readings) (o : BinaryOperator) (a b : FlatExpr) (k : ValueType) (s t : Option ValueType) → typed scope a ≡ s → typed scope b ≡ t
-    → Goes scope r a → Goes scope r b → binary_result o s t ≡ Some k → IfOk ((meaning_at (FlatExpr-F.Binary o k (meaning_of a) (meaning_of b))).value r) (IsOfType scope.enumerations k)
+    → Gives scope r a → Gives scope r b → binary_result o s t ≡ Some k → IfOk ((meaning_at (FlatExpr-F.Binary o k (meaning_of a) (meaning_of b))).value r) (IsOfType scope.enumerations k)
 binary_goes scope r o a b k (Some s) (Some t) sa tb ga gb h =
     ok_then (IsOfType scope.enumerations s) (IsOfType scope.enumerations k)
     (λ x. unless_decided (decided_by o x) (λ left. and_then (λ y. operated (binary_of o left y)) (value_of b r)) x) (value_of a r) (ga s sa)
@@ -108,7 +139,7 @@ call_none function.Sin k h = absurd (cc)
 call_none function.Cos k h = absurd (cc)
 call_none function.Sqrt k h = absurd (cc)
 
-call_goes : (scope : Scope) (r : Readings) (f : Function) (a : FlatExpr) (k : ValueType) (t : Option ValueType) → typed scope a ≡ t → Goes scope r a → call_type f t ≡ Some k
+call_goes : (scope : Scope) (r : Readings) (f : Function) (a : FlatExpr) (k : ValueType) (t : Option ValueType) → typed scope a ≡ t → Gives scope r a → call_type f t ≡ Some k
     → IfOk ((meaning_at (FlatExpr-F.Call f (meaning_of a))).value r) (IsOfType scope.enumerations k)
 call_goes scope r f a k (Some t) is goes h =
     ok_then (IsOfType scope.enumerations t) (IsOfType scope.enumerations k) (called f) (value_of a r) (goes t is)
@@ -135,60 +166,93 @@ event_truth None k h = absurd (cc)
 time_in_range : (n : ℕ) → n ≤ 1000000000000000000 → nat_le n 1000000000000000000 ≡ true
 time_in_range n h = grind (arith, nat_tests)
 
-step : (scope : Scope) (r : Readings) → Reads scope r → (y : FlatExpr-F (Part scope r)) → Goes scope r (roll-FlatExpr (map-FlatExpr (Part scope r) FlatExpr (λ p. p.0) y))
-step scope r reads (FlatExpr-F.Literal v) =
+step : (scope : Scope) (r : Readings) (whole : FlatExpr) → ReadsFor scope r whole → (y : FlatExpr-F (Part scope r)) → Goes scope r (roll-FlatExpr (map-FlatExpr (Part scope r) FlatExpr (λ p. p.0) y))
+step scope r whole reads (FlatExpr-F.Literal v) =
     lift scope r (FlatExpr-F.Literal v) (type_at scope (FlatExpr-F.Literal v)) (meaning_at (FlatExpr-F.Literal v))
+    (λ (s : SignalName). reads_at s (FlatExpr-F.Literal v))
     (fold-roll-FlatExpr (Option ValueType) (type_at scope) (FlatExpr-F.Literal v)) (fold-roll-FlatExpr Meaning meaning_at (FlatExpr-F.Literal v))
-    (λ k h. let known = if_true_is (is_in_range scope.enumerations v) (type_of v) k h in record { kind_is = known.1; range = known.0 })
-step scope r reads (FlatExpr-F.Signal s t) =
+    (λ (s : SignalName). fold-roll-FlatExpr Bool (reads_at s) (FlatExpr-F.Literal v))
+    (λ sees k h. let known = if_true_is (is_in_range scope.enumerations v) (type_of v) k h in record { kind_is = known.1; range = known.0 })
+step scope r whole reads (FlatExpr-F.Signal s t) =
     lift scope r (FlatExpr-F.Signal s t) (type_at scope (FlatExpr-F.Signal s t)) (meaning_at (FlatExpr-F.Signal s t))
+    (λ (n : SignalName). reads_at n (FlatExpr-F.Signal s t))
     (fold-roll-FlatExpr (Option ValueType) (type_at scope) (FlatExpr-F.Signal s t)) (fold-roll-FlatExpr Meaning meaning_at (FlatExpr-F.Signal s t))
-    (λ k h. seen_typed scope r s k reads (agreed_is t k (signal_type scope s) h))
-step scope r reads (FlatExpr-F.Event s) =
+    (λ (n : SignalName). fold-roll-FlatExpr Bool (reads_at n) (FlatExpr-F.Signal s t))
+    (λ sees k h. sees s k (same_name s) (agreed_is t k (signal_type scope s) h))
+step scope r whole reads (FlatExpr-F.Event s) =
     lift scope r (FlatExpr-F.Event s) (type_at scope (FlatExpr-F.Event s)) (meaning_at (FlatExpr-F.Event s))
+    (λ (n : SignalName). reads_at n (FlatExpr-F.Event s))
     (fold-roll-FlatExpr (Option ValueType) (type_at scope) (FlatExpr-F.Event s)) (fold-roll-FlatExpr Meaning meaning_at (FlatExpr-F.Event s))
-    (λ k h. record { kind_is = event_truth (signal_type scope s) k h; range = refl })
-step scope r reads (FlatExpr-F.Unknown u) =
+    (λ (n : SignalName). fold-roll-FlatExpr Bool (reads_at n) (FlatExpr-F.Event s))
+    (λ sees k h. record { kind_is = event_truth (signal_type scope s) k h; range = refl })
+step scope r whole reads (FlatExpr-F.Unknown u) =
     lift scope r (FlatExpr-F.Unknown u) (type_at scope (FlatExpr-F.Unknown u)) (meaning_at (FlatExpr-F.Unknown u))
+    (λ (s : SignalName). reads_at s (FlatExpr-F.Unknown u))
     (fold-roll-FlatExpr (Option ValueType) (type_at scope) (FlatExpr-F.Unknown u)) (fold-roll-FlatExpr Meaning meaning_at (FlatExpr-F.Unknown u))
-    (λ k h. from_number scope.enumerations k (unknown_real scope u k h) (ranged (unknown_of r u)) (ranged_in (unknown_of r u)))
-step scope r reads (FlatExpr-F.Variable i t) =
+    (λ (s : SignalName). fold-roll-FlatExpr Bool (reads_at s) (FlatExpr-F.Unknown u))
+    (λ sees k h. from_number scope.enumerations k (unknown_real scope u k h) (ranged (unknown_of r u)) (ranged_in (unknown_of r u)))
+step scope r whole reads (FlatExpr-F.Variable i t) =
     lift scope r (FlatExpr-F.Variable i t) (type_at scope (FlatExpr-F.Variable i t)) (meaning_at (FlatExpr-F.Variable i t))
+    (λ (s : SignalName). reads_at s (FlatExpr-F.Variable i t))
     (fold-roll-FlatExpr (Option ValueType) (type_at scope) (FlatExpr-F.Variable i t)) (fold-roll-FlatExpr Meaning meaning_at (FlatExpr-F.Variable i t))
-    (λ k h.
+    (λ (s : SignalName). fold-roll-FlatExpr Bool (reads_at s) (FlatExpr-F.Variable i t))
+    (λ sees k h.
     let at = read_at type_of r.variables i (val.Bool false) k (rw reads.variables (agreed_is t k (slice_get scope.variables i) h)) in
     record { kind_is = at.1; range = reads.variables_range i (val.Bool false) at.0 })
-step scope r reads FlatExpr-F.NowTime =
+step scope r whole reads FlatExpr-F.NowTime =
     lift scope r FlatExpr-F.NowTime (type_at scope FlatExpr-F.NowTime) (meaning_at FlatExpr-F.NowTime)
+    (λ (s : SignalName). reads_at s FlatExpr-F.NowTime)
     (fold-roll-FlatExpr (Option ValueType) (type_at scope) FlatExpr-F.NowTime) (fold-roll-FlatExpr Meaning meaning_at FlatExpr-F.NowTime)
-    (λ k h. record { kind_is = (cc); range = time_in_range r.now reads.now })
-step scope r reads FlatExpr-F.NowReal =
+    (λ (s : SignalName). fold-roll-FlatExpr Bool (reads_at s) FlatExpr-F.NowTime)
+    (λ sees k h. record { kind_is = (cc); range = time_in_range r.now reads.now })
+step scope r whole reads FlatExpr-F.NowReal =
     lift scope r FlatExpr-F.NowReal (type_at scope FlatExpr-F.NowReal) (meaning_at FlatExpr-F.NowReal)
+    (λ (s : SignalName). reads_at s FlatExpr-F.NowReal)
     (fold-roll-FlatExpr (Option ValueType) (type_at scope) FlatExpr-F.NowReal) (fold-roll-FlatExpr Meaning meaning_at FlatExpr-F.NowReal)
-    (λ k h. real_typed scope.enumerations (pos r.now) k (cc) (omega (arith, reads.now)))
-step scope r reads (FlatExpr-F.Unary o t a) =
+    (λ (s : SignalName). fold-roll-FlatExpr Bool (reads_at s) FlatExpr-F.NowReal)
+    (λ sees k h. real_typed scope.enumerations (pos r.now) k (cc) (omega (arith, reads.now)))
+step scope r whole reads (FlatExpr-F.Unary o t a) =
     lift scope r (FlatExpr-F.Unary o t a.0) (type_at scope (FlatExpr-F.Unary o t (typed scope a.0))) (meaning_at (FlatExpr-F.Unary o t (meaning_of a.0)))
+    (λ (s : SignalName). reads_at s (FlatExpr-F.Unary o t (reads_in s a.0)))
     (fold-roll-FlatExpr (Option ValueType) (type_at scope) (FlatExpr-F.Unary o t a.0)) (fold-roll-FlatExpr Meaning meaning_at (FlatExpr-F.Unary o t a.0))
-    (λ k h. unary_goes scope r o a.0 k (typed scope a.0) refl a.1 (agreed_is t k (unary_result o (typed scope a.0)) h))
-step scope r reads (FlatExpr-F.Binary o t a b) =
+    (λ (s : SignalName). fold-roll-FlatExpr Bool (reads_at s) (FlatExpr-F.Unary o t a.0))
+    (λ sees k h. unary_goes scope r o a.0 k (typed scope a.0) refl (a.1 sees) (agreed_is t k (unary_result o (typed scope a.0)) h))
+step scope r whole reads (FlatExpr-F.Binary o t a b) =
     lift scope r (FlatExpr-F.Binary o t a.0 b.0) (type_at scope (FlatExpr-F.Binary o t (typed scope a.0) (typed scope b.0))) (meaning_at (FlatExpr-F.Binary o t (meaning_of a.0) (meaning_of b.0)))
+    (λ (s : SignalName). reads_at s (FlatExpr-F.Binary o t (reads_in s a.0) (reads_in s b.0)))
     (fold-roll-FlatExpr (Option ValueType) (type_at scope) (FlatExpr-F.Binary o t a.0 b.0)) (fold-roll-FlatExpr Meaning meaning_at (FlatExpr-F.Binary o t a.0 b.0))
-    (λ k h. binary_goes scope r o a.0 b.0 k (typed scope a.0) (typed scope b.0) refl refl a.1 b.1 (agreed_is t k (binary_result o (typed scope a.0) (typed scope b.0)) h))
-step scope r reads (FlatExpr-F.Call f a) =
+    (λ (s : SignalName). fold-roll-FlatExpr Bool (reads_at s) (FlatExpr-F.Binary o t a.0 b.0))
+    (λ sees k h. binary_goes scope r o a.0 b.0 k (typed scope a.0) (typed scope b.0) refl refl (a.1 (λ s j on known. sees s j (or_left (reads_in s a.0) (reads_in s b.0) on) known)) (b.1 (λ s j on known. sees s j (or_right (reads_in s a.0) (reads_in s b.0) on) known)) (agreed_is t k (binary_result o (typed scope a.0) (typed scope b.0)) h))
+step scope r whole reads (FlatExpr-F.Call f a) =
     lift scope r (FlatExpr-F.Call f a.0) (type_at scope (FlatExpr-F.Call f (typed scope a.0))) (meaning_at (FlatExpr-F.Call f (meaning_of a.0)))
+    (λ (s : SignalName). reads_at s (FlatExpr-F.Call f (reads_in s a.0)))
     (fold-roll-FlatExpr (Option ValueType) (type_at scope) (FlatExpr-F.Call f a.0)) (fold-roll-FlatExpr Meaning meaning_at (FlatExpr-F.Call f a.0))
-    (λ k h. call_goes scope r f a.0 k (typed scope a.0) refl a.1 h)
-step scope r reads (FlatExpr-F.Index a i range) =
+    (λ (s : SignalName). fold-roll-FlatExpr Bool (reads_at s) (FlatExpr-F.Call f a.0))
+    (λ sees k h. call_goes scope r f a.0 k (typed scope a.0) refl (a.1 sees) h)
+step scope r whole reads (FlatExpr-F.Index a i range) =
     lift scope r (FlatExpr-F.Index a.0 i.0 range) (type_at scope (FlatExpr-F.Index (typed scope a.0) (typed scope i.0) range)) (meaning_at (FlatExpr-F.Index (meaning_of a.0) (meaning_of i.0) range))
+    (λ (s : SignalName). reads_at s (FlatExpr-F.Index (reads_in s a.0) (reads_in s i.0) range))
     (fold-roll-FlatExpr (Option ValueType) (type_at scope) (FlatExpr-F.Index a.0 i.0 range)) (fold-roll-FlatExpr Meaning meaning_at (FlatExpr-F.Index a.0 i.0 range))
-    (λ k h.
+    (λ (s : SignalName). fold-roll-FlatExpr Bool (reads_at s) (FlatExpr-F.Index a.0 i.0 range))
+    (λ sees k h.
     subst (λ (z : ValueType). IfOk ((meaning_at (FlatExpr-F.Index (meaning_of a.0) (meaning_of i.0) range)).value r) (IsOfType scope.enumerations z))
     (element_is_bit (typed scope a.0) (typed scope i.0) k h)
     (ok_then (λ (x : Val). Unit {0}) (IsOfType scope.enumerations Bit) (λ v. and_then (element range v) (value_of i.0 r)) (value_of a.0 r) (anything (value_of a.0 r))
     (λ v _. ok_then (λ (x : Val). Unit {0}) (IsOfType scope.enumerations Bit) (element range v) (value_of i.0 r) (anything (value_of i.0 r)) (λ w _. element_typed scope.enumerations range v w))))
 
-goes : (scope : Scope) (r : Readings) → Reads scope r → (e : FlatExpr) → Goes scope r e
-goes scope r reads = ind-FlatExpr (Goes scope r) (λ x y is. subst (λ (z : FlatExpr-F FlatExpr). Goes scope r (roll-FlatExpr z)) is (step scope r reads y))
+goes : (scope : Scope) (r : Readings) (whole : FlatExpr) → ReadsFor scope r whole → (e : FlatExpr) → Goes scope r e
+goes scope r whole reads =
+    ind-FlatExpr (Goes scope r) (λ x y is. subst (λ (z : FlatExpr-F FlatExpr). Goes scope r (roll-FlatExpr z)) is (step scope r whole reads y))
+
+pub read_values_are_typed : ReadValuesAreTyped
+read_values_are_typed scope r e k v reads typed_as is = subst (λ m. IfOk m (IsOfType scope.enumerations k)) is (goes scope r e reads e reads.signals k typed_as)
 
 pub values_are_typed : ValuesAreTyped
-values_are_typed scope r e k v reads typed_as is = subst (λ m. IfOk m (IsOfType scope.enumerations k)) is (goes scope r reads e k typed_as)
+values_are_typed scope r e k v reads typed_as is =
+    read_values_are_typed scope r e k v
+    (record {
+      signals = λ s j on known. seen_typed scope r s j reads known;
+      variables = reads.variables;
+      variables_range = reads.variables_range;
+      now = reads.now;
+    }) typed_as is

@@ -2,9 +2,10 @@
 //! proved and does nothing when it runs.
 #![tactic(auto)]
 
-ghost use Rattle.value_types.specs.Typing.{ValuesAreTyped};
+ghost use Rattle.value_types.specs.Typing.{ReadValuesAreTyped, ValuesAreTyped};
 
 /// The value of an expression is of the expression's type, and in its range.
 pub fn values_are_typed()
-    ensures { ValuesAreTyped }
+    ensures whole { ValuesAreTyped }
+    ensures read { ReadValuesAreTyped }
 {}
