@@ -7,6 +7,3 @@ mod files;
 mod read;
 
 pub use read::{fronts_begin, one_tree, parse};
-
-#[cfg(test)]
-mod tests;

@@ -3,29 +3,28 @@ ghost use Rattle.ams_token.specs.declared.token.Token.{Token};
 ghost use Rattle.ams_tree.specs.declared.design.DesignFile.{DesignFile};
 ghost use Rattle.ams_tree.specs.Designs as grammar;
 ghost use Rattle.ams_tree.specs.Answer.{Spells, SpellsWithin, Begins, BeginsWithin};
-ghost use Rattle.parse_steps.specs.Reply.{most_operators};
+ghost use Rattle.parse_steps.specs.Reply.{most_levels, most_operators};
 ghost use Rattle.ams_parser.specs.Whole.{AnswersWhole, IsWhole};
 
 use crate::files::design_file;
 use ams_token::{Token, Tokens};
 use ams_tree::DesignFile;
-use parse_decl::{MOST_LEVELS, MOST_OPERATORS};
-use parse_steps::{ParseFault, Reader, fault_at};
+use parse_steps::{MOST_LEVELS, MOST_OPERATORS, ParseFault, Reader, fault_at};
 use std::alloc::Global;
 
 /// Reads all tokens as one design file.
 pub fn parse(alloc: Global, tokens: &Tokens) -> Result<DesignFile, ParseFault>
     // A file that spells all tokens, or the first place where none goes on or a limit is passed.
-    ensures answer { AnswersWhole grammar.design_file 64 most_operators tokens.now.list.items result }
+    ensures answer { AnswersWhole grammar.design_file most_levels most_operators tokens.now.list.items result }
     // What a file within the limits spells is read as that file.
-    ensures back { (file : DesignFile) → SpellsWithin grammar.design_file 64 most_operators file tokens.now.list.items → IsWhole file result }
+    ensures back { (file : DesignFile) → SpellsWithin grammar.design_file most_levels most_operators file tokens.now.list.items → IsWhole file result }
 {
     whole(alloc, tokens.list.as_slice())
 }
 
 fn whole(alloc: Global, tokens: &[Token]) -> Result<DesignFile, ParseFault>
-    ensures answer { AnswersWhole grammar.design_file 64 most_operators tokens.now result }
-    ensures back { (file : DesignFile) → SpellsWithin grammar.design_file 64 most_operators file tokens.now → IsWhole file result }
+    ensures answer { AnswersWhole grammar.design_file most_levels most_operators tokens.now result }
+    ensures back { (file : DesignFile) → SpellsWithin grammar.design_file most_levels most_operators file tokens.now → IsWhole file result }
 {
     let mut reader = Reader::new(tokens, MOST_OPERATORS);
     match design_file(alloc, &mut reader, MOST_LEVELS) {

@@ -5,6 +5,7 @@ ghost use Rattle.parse_conc.specs.Parsing as spec;
 
 use ams_token::{Mark, TokenKind, Word};
 use ams_tree::{ConcurrentStatement, ConditionalWaveform, Expr, WaveformElement};
+use held_value::Held;
 use parse_expr::outermost;
 use parse_parts::{maybe_delay, name, waveform};
 use parse_steps::{Reader, Stop};
@@ -54,14 +55,14 @@ fn more_waveforms(
         if !reader.at(TokenKind::Word(Word::When)) {
             return Ok((conditional, last, None));
         }
-        let condition = when_condition(alloc, reader, levels)?;
+        let condition = Held::new(when_condition(alloc, reader, levels)?);
         if !reader.at(TokenKind::Word(Word::Else)) {
-            return Ok((conditional, last, Some(condition)));
+            return Ok((conditional, last, Some(condition.into_inner())));
         }
         let next = else_waveform(alloc, reader, levels)?;
         conditional.push(ConditionalWaveform {
             elements: last,
-            condition,
+            condition: condition.into_inner(),
         })?;
         last = next;
     }
@@ -91,8 +92,15 @@ pub fn concurrent_assignment(
 {
     let target = name(reader)?;
     reader.expect(TokenKind::Mark(Mark::LessEqual))?;
-    let delay = maybe_delay(alloc, reader, levels)?;
+    let delay = Held::new(maybe_delay(alloc, reader, levels)?);
     let (conditional, last, condition) = conditional_waveforms(alloc, reader, levels)?;
+    let condition = Held::new(condition);
     reader.expect(TokenKind::Mark(Mark::Semicolon))?;
-    Ok(ConcurrentStatement::Assign(target, delay, conditional, last, condition))
+    Ok(ConcurrentStatement::Assign(
+        target,
+        delay.into_inner(),
+        conditional,
+        last,
+        condition.into_inner(),
+    ))
 }

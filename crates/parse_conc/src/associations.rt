@@ -45,7 +45,7 @@ fn named_association(
 fn one_association(alloc: Global, reader: &mut Reader<'_>, levels: u32) -> Result<Association, Stop>
     ensures { Reads (spec.one_association most_operators levels reader.old) result reader.new }
 {
-    if name_then(reader, Mark::Arrow)? {
+    if name_then(reader, Mark::Arrow) {
         return named_association(alloc, reader, levels);
     }
     actual(alloc, reader, levels, None)

@@ -5,6 +5,7 @@ ghost use Rattle.parse_conc.specs.Parsing as spec;
 
 use ams_token::{Mark, TokenKind, Word};
 use ams_tree::ConcurrentStatement;
+use held_value::Held;
 use parse_parts::{break_elements, condition, names_on};
 use parse_steps::{Reader, Stop};
 use std::alloc::Global;
@@ -21,7 +22,7 @@ pub fn concurrent_break(
     let place = reader.expect(TokenKind::Word(Word::Break))?;
     let elements = break_elements(alloc, reader, levels)?;
     let names = names_on(alloc, reader, levels)?;
-    let condition = condition(alloc, reader, levels)?;
+    let condition = Held::new(condition(alloc, reader, levels)?);
     reader.expect(TokenKind::Mark(Mark::Semicolon))?;
-    Ok(ConcurrentStatement::Break(place, elements, names, condition))
+    Ok(ConcurrentStatement::Break(place, elements, names, condition.into_inner()))
 }

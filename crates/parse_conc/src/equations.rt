@@ -6,6 +6,7 @@ ghost use Rattle.parse_conc.specs.Parsing as spec;
 use crate::tokens::begins_expression;
 use ams_token::{Mark, TokenKind};
 use ams_tree::Equation;
+use held_value::Held;
 use parse_expr::outermost_simple;
 use parse_steps::{Reader, Stop};
 use sqlite_items::Items;
@@ -16,11 +17,14 @@ use std::alloc::Global;
 pub fn equation(alloc: Global, reader: &mut Reader<'_>, levels: u32) -> Result<Equation, Stop>
     ensures { Reads (spec.equation most_operators levels reader.old) result reader.new }
 {
-    let left = outermost_simple(alloc, reader, levels)?;
+    let left = Held::new(outermost_simple(alloc, reader, levels)?);
     reader.expect(TokenKind::Mark(Mark::DoubleEqual))?;
-    let right = outermost_simple(alloc, reader, levels)?;
+    let right = Held::new(outermost_simple(alloc, reader, levels)?);
     reader.expect(TokenKind::Mark(Mark::Semicolon))?;
-    Ok(Equation { left, right })
+    Ok(Equation {
+        left: left.into_inner(),
+        right: right.into_inner(),
+    })
 }
 
 /// Simple simultaneous statements, as many as there are.

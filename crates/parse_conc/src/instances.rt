@@ -6,6 +6,7 @@ ghost use Rattle.parse_conc.specs.Parsing as spec;
 use crate::associations::map_aspect;
 use ams_token::{Mark, Place, TokenKind, Word};
 use ams_tree::{Association, ConcurrentStatement, Instance, Name};
+use held_value::Held;
 use parse_parts::name;
 use parse_steps::{Reader, Stop};
 use sqlite_items::Items;
@@ -83,8 +84,8 @@ fn maps(
 ) -> Result<ConcurrentStatement, Stop>
     ensures { Reads (spec.maps most_operators levels aspect reader.old) result reader.new }
 {
-    let generics = maybe_map(alloc, reader, levels, Word::Generic)?;
-    let ports = maybe_map(alloc, reader, levels, Word::Port)?;
+    let generics = Held::new(maybe_map(alloc, reader, levels, Word::Generic)?);
+    let ports = Held::new(maybe_map(alloc, reader, levels, Word::Port)?);
     reader.expect(TokenKind::Mark(Mark::Semicolon))?;
     let (place, (library, entity), architecture) = aspect;
     Ok(ConcurrentStatement::Instance(Instance {
@@ -92,8 +93,8 @@ fn maps(
         library,
         entity,
         architecture,
-        generics,
-        ports,
+        generics: generics.into_inner(),
+        ports: ports.into_inner(),
     }))
 }
 

@@ -15,6 +15,3 @@ mod tokens;
 pub use read::{concurrent, fronts_begin, one_tree};
 pub use statements::any_concurrent;
 pub use tokens::begins_concurrent;
-
-#[cfg(test)]
-mod tests;

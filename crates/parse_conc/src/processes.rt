@@ -5,6 +5,7 @@ ghost use Rattle.parse_conc.specs.Parsing as spec;
 
 use ams_token::{Mark, Place, TokenKind, Word};
 use ams_tree::{ConcurrentStatement, Expr, Name, Process, ProcessDeclaration, Seq};
+use held_value::Held;
 use parse_decl::{begins_process_declaration, process_declaration, word_said};
 use parse_expr::name_of;
 use parse_parts::{name, name_list};
@@ -63,11 +64,11 @@ fn process_head(
 ) -> Result<(Option<Items<Expr>>, bool, Items<ProcessDeclaration>), Stop>
     ensures { Reads (spec.process_head most_operators levels reader.old) result reader.new }
 {
-    let names = maybe_sensitivity(alloc, reader, levels)?;
+    let names = Held::new(maybe_sensitivity(alloc, reader, levels)?);
     let word_is = word_said(reader, Word::Is)?;
     let locals = declarations(alloc, reader, levels)?;
     reader.expect(TokenKind::Word(Word::Begin))?;
-    Ok((names, word_is, locals))
+    Ok((names.into_inner(), word_is, locals))
 }
 
 #[tactic(auto, using(parse_steps::proofs::Steps::terminal_seen), unfolding(crate::specs::Parsing::statements))]
@@ -121,10 +122,11 @@ pub fn process_parts(
     ensures { Reads (spec.process_parts most_operators levels place reader.old) result reader.new }
 {
     let (sensitivity, word_is, declarations) = process_head(alloc, reader, levels)?;
+    let sensitivity = Held::new(sensitivity);
     let (body, end) = process_body(alloc, reader, levels)?;
     Ok(ConcurrentStatement::Process(Process {
         place,
-        sensitivity,
+        sensitivity: sensitivity.into_inner(),
         word_is,
         declarations,
         body,

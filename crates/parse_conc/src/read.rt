@@ -3,13 +3,12 @@ ghost use Rattle.ams_token.specs.declared.token.Token.{Token};
 ghost use Rattle.ams_tree.specs.declared.concurrent.Concurrent.{Concurrent};
 ghost use Rattle.ams_tree.specs.Concurrents as grammar;
 ghost use Rattle.ams_tree.specs.Answer.{Spells, SpellsWithin, Begins, BeginsWithin};
-ghost use Rattle.parse_steps.specs.Reply.{Answers, IsTree, most_operators};
+ghost use Rattle.parse_steps.specs.Reply.{Answers, IsTree, most_levels, most_operators};
 
 use crate::statements::any_concurrent;
 use ams_token::{Token, Tokens};
 use ams_tree::Concurrent;
-use parse_decl::{MOST_LEVELS, MOST_OPERATORS};
-use parse_steps::{ParseFault, Reader, fault_at};
+use parse_steps::{MOST_LEVELS, MOST_OPERATORS, ParseFault, Reader, fault_at};
 use std::alloc::Global;
 
 /// Reads the concurrent statement that begins at a place, as far as the tokens go on with one, where `depth` levels are open.
@@ -21,11 +20,11 @@ pub fn concurrent(
     depth: u32,
 ) -> Result<(Concurrent, usize), ParseFault>
     requires place { at ≤ length tokens.now.list.items }
-    requires open { depth ≤ 64 }
+    requires open { depth ≤ most_levels }
     // The longest front that begins a concurrent statement is one, or the first place where none goes on or a limit is passed.
-    ensures answer { Answers grammar.concurrent (64 - depth) tokens.now.list.items at result }
+    ensures answer { Answers grammar.concurrent (most_levels - depth) tokens.now.list.items at result }
     // What a tree within the limits spells is read as that tree.
-    ensures back { (tree : Concurrent) → SpellsWithin grammar.concurrent (64 - depth) most_operators tree (drop at tokens.now.list.items) → IsTree tree (length tokens.now.list.items) result }
+    ensures back { (tree : Concurrent) → SpellsWithin grammar.concurrent (most_levels - depth) most_operators tree (drop at tokens.now.list.items) → IsTree tree (length tokens.now.list.items) result }
 {
     read(alloc, tokens.list.as_slice(), at, MOST_LEVELS - depth)
 }

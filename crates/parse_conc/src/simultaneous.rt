@@ -6,6 +6,7 @@ ghost use Rattle.parse_conc.specs.Parsing as spec;
 use crate::equations::equations;
 use ams_token::{Place, TokenKind, Word};
 use ams_tree::{ConcurrentStatement, Equation, SimultaneousAlternative, SimultaneousBranch};
+use held_value::Held;
 use parse_expr::outermost;
 use parse_parts::{choices, ending};
 use parse_steps::{Reader, Stop};
@@ -20,11 +21,11 @@ fn simultaneous_branch(
 ) -> Result<SimultaneousBranch, Stop>
     ensures { Reads (spec.simultaneous_branch most_operators levels reader.old) result reader.new }
 {
-    let condition = outermost(alloc, reader, levels)?;
+    let condition = Held::new(outermost(alloc, reader, levels)?);
     reader.expect(TokenKind::Word(Word::Use))?;
     let equations = equations(alloc, reader, levels)?;
     Ok(SimultaneousBranch {
-        condition,
+        condition: condition.into_inner(),
         equations,
     })
 }
@@ -77,9 +78,9 @@ pub fn simultaneous_if(
 {
     let first = simultaneous_branch(alloc, reader, levels)?;
     let all = more_branches(alloc, reader, levels, first)?;
-    let other = other_equations(alloc, reader, levels)?;
+    let other = Held::new(other_equations(alloc, reader, levels)?);
     ending(reader, Word::Use)?;
-    Ok(ConcurrentStatement::If(place, all, other))
+    Ok(ConcurrentStatement::If(place, all, other.into_inner()))
 }
 
 #[tactic(auto, using(parse_steps::proofs::Steps::terminal_seen), unfolding(crate::specs::Parsing::simultaneous_alternative))]
@@ -137,9 +138,9 @@ pub fn simultaneous_case(
 ) -> Result<ConcurrentStatement, Stop>
     ensures { Reads (spec.simultaneous_case most_operators levels place reader.old) result reader.new }
 {
-    let value = outermost(alloc, reader, levels)?;
+    let value = Held::new(outermost(alloc, reader, levels)?);
     reader.expect(TokenKind::Word(Word::Use))?;
     let all = simultaneous_alternatives(alloc, reader, levels)?;
     ending(reader, Word::Case)?;
-    Ok(ConcurrentStatement::Case(place, value, all))
+    Ok(ConcurrentStatement::Case(place, value.into_inner(), all))
 }

@@ -24,7 +24,7 @@ fn assignment_or_equation(
 ) -> Result<ConcurrentStatement, Stop>
     ensures { Reads (spec.assignment_or_equation most_operators levels reader.old) result reader.new }
 {
-    if name_then(reader, Mark::LessEqual)? {
+    if name_then(reader, Mark::LessEqual) {
         return concurrent_assignment(alloc, reader, levels);
     }
     Ok(ConcurrentStatement::Equation(equation(alloc, reader, levels)?))
@@ -95,7 +95,7 @@ pub fn any_concurrent(
 ) -> Result<Concurrent, Stop>
     ensures { Reads (spec.concurrent most_operators levels reader.old) result reader.new }
 {
-    if name_then(reader, Mark::Colon)? {
+    if name_then(reader, Mark::Colon) {
         return labelled(alloc, reader, levels);
     }
     let statement = unlabelled(alloc, reader, levels)?;

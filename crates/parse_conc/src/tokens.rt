@@ -1,12 +1,12 @@
 //! What the next tokens are.
 
-ghost use Rattle.std.specs.Prelude.{◌≡◌, Ok, is_some};
-ghost use Rattle.parse_steps.specs.Reading.{Reads, from_next};
+ghost use Rattle.std.specs.Prelude.{◌≡◌, is_some};
+ghost use Rattle.parse_steps.specs.Reading.{from_next};
 ghost use Rattle.parse_conc.specs.Parsing as spec;
 
 use ams_token::{Mark, Token, TokenKind, Word};
 use parse_expr::name_of;
-use parse_steps::{Reader, Stop};
+use parse_steps::Reader;
 
 /// Whether an expression begins.
 #[tactic(auto, unfolding(crate::specs::Parsing::begins_expression))]
@@ -52,13 +52,8 @@ pub fn begins_concurrent(next: Option<Token>) -> bool
 
 /// Whether an identifier comes next, and this mark behind it.
 #[tactic(auto, unfolding(crate::specs::Parsing::name_then))]
-pub fn name_then(reader: &Reader<'_>, mark: Mark) -> Result<bool, Stop>
-    ensures { Reads (Ok (spec.name_then mark reader.now.rest, reader.now)) result reader.now }
+pub fn name_then(reader: &Reader<'_>, mark: Mark) -> bool
+    ensures { result ≡ spec.name_then mark reader.now.rest }
 {
-    if name_of(reader.peek()).is_none() {
-        return Ok(false);
-    }
-    let mut ahead = reader.fresh(0);
-    ahead.take(true, 0)?;
-    Ok(ahead.at(TokenKind::Mark(mark)))
+    name_of(reader.peek()).is_some() && reader.at_second(TokenKind::Mark(mark))
 }

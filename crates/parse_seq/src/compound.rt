@@ -14,6 +14,7 @@ use crate::simple::simple_statement;
 use crate::tokens::{begins_simple, begins_statement};
 use ams_token::{Place, TokenKind, Word};
 use ams_tree::{Alternative, Branch, Expr, Iteration, Seq};
+use held_value::Held;
 use parse_expr::outermost;
 use parse_parts::{choices, ending, name, range};
 use parse_steps::{Reader, Stop};
@@ -70,10 +71,13 @@ impl<F: Fn(Global, &mut Reader<'_>, u32) -> Result<Seq, Stop>> Statements<F> {
         requires { Nests self.now.levels (F.pre self.now.nested) (F.post self.now.nested) }
         ensures { Reads (at_level spec.branch self.now.levels reader.old) result reader.new }
     {
-        let condition = self.expression(reader)?;
+        let condition = Held::new(self.expression(reader)?);
         reader.expect(TokenKind::Word(Word::Then))?;
         let body = self.body(reader)?;
-        Ok(Branch { condition, body })
+        Ok(Branch {
+            condition: condition.into_inner(),
+            body,
+        })
     }
 
     #[tactic(auto, using(parse_steps::proofs::Steps::terminal_seen), unfolding(crate::specs::Parsing::more_branches))]
@@ -115,9 +119,9 @@ impl<F: Fn(Global, &mut Reader<'_>, u32) -> Result<Seq, Stop>> Statements<F> {
         let mut all = Items::new(self.alloc);
         all.push(first)?;
         let all = self.more_branches(reader, all)?;
-        let other = self.otherwise(reader)?;
+        let other = Held::new(self.otherwise(reader)?);
         ending(reader, Word::If)?;
-        Ok(Seq::If(place, all, other))
+        Ok(Seq::If(place, all, other.into_inner()))
     }
 
     #[tactic(auto, using(parse_steps::proofs::Steps::terminal_seen), unfolding(crate::specs::Parsing::if_statement))]
@@ -174,11 +178,11 @@ impl<F: Fn(Global, &mut Reader<'_>, u32) -> Result<Seq, Stop>> Statements<F> {
         ensures { Reads (at_level spec.case_statement self.now.levels reader.old) result reader.new }
     {
         let place = reader.expect_within(TokenKind::Word(Word::Case), self.levels > 0, 0)?;
-        let value = self.expression(reader)?;
+        let value = Held::new(self.expression(reader)?);
         reader.expect(TokenKind::Word(Word::Is))?;
         let all = self.alternatives(reader)?;
         ending(reader, Word::Case)?;
-        Ok(Seq::Case(place, value, all))
+        Ok(Seq::Case(place, value.into_inner(), all))
     }
 
     #[tactic(auto, using(parse_steps::proofs::Steps::terminal_seen), unfolding(crate::specs::Parsing::rest_of_loop))]
@@ -191,9 +195,10 @@ impl<F: Fn(Global, &mut Reader<'_>, u32) -> Result<Seq, Stop>> Statements<F> {
         requires { Nests self.now.levels (F.pre self.now.nested) (F.post self.now.nested) }
         ensures { Reads (at_level spec.rest_of_loop self.now.levels place iteration reader.old) result reader.new }
     {
+        let iteration = Held::new(iteration);
         let body = self.body(reader)?;
         ending(reader, Word::Loop)?;
-        Ok(Seq::Loop(place, iteration, body))
+        Ok(Seq::Loop(place, iteration.into_inner(), body))
     }
 
     #[tactic(auto, using(parse_steps::proofs::Steps::terminal_seen), unfolding(crate::specs::Parsing::parameter))]
@@ -212,9 +217,9 @@ impl<F: Fn(Global, &mut Reader<'_>, u32) -> Result<Seq, Stop>> Statements<F> {
         ensures { Reads (at_level spec.while_loop self.now.levels reader.old) result reader.new }
     {
         let place = reader.expect_within(TokenKind::Word(Word::While), self.levels > 0, 0)?;
-        let condition = self.expression(reader)?;
+        let condition = Held::new(self.expression(reader)?);
         reader.expect(TokenKind::Word(Word::Loop))?;
-        self.rest_of_loop(reader, place, Iteration::While(condition))
+        self.rest_of_loop(reader, place, Iteration::While(condition.into_inner()))
     }
 
     #[tactic(auto, using(parse_steps::proofs::Steps::terminal_seen), unfolding(crate::specs::Parsing::for_loop))]
@@ -223,9 +228,9 @@ impl<F: Fn(Global, &mut Reader<'_>, u32) -> Result<Seq, Stop>> Statements<F> {
         ensures { Reads (at_level spec.for_loop self.now.levels reader.old) result reader.new }
     {
         let place = reader.expect_within(TokenKind::Word(Word::For), self.levels > 0, 0)?;
-        let iteration = self.parameter(reader)?;
+        let iteration = Held::new(self.parameter(reader)?);
         reader.expect(TokenKind::Word(Word::Loop))?;
-        self.rest_of_loop(reader, place, iteration)
+        self.rest_of_loop(reader, place, iteration.into_inner())
     }
 
     #[tactic(auto, using(parse_steps::proofs::Steps::terminal_seen), unfolding(crate::specs::Parsing::plain_loop))]

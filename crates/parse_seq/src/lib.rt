@@ -9,6 +9,3 @@ mod tokens;
 pub use compound::any_statement;
 pub use read::{fronts_begin, one_tree, statement};
 pub use tokens::begins_statement;
-
-#[cfg(test)]
-mod tests;

@@ -3,17 +3,13 @@ ghost use Rattle.ams_token.specs.declared.token.Token.{Token};
 ghost use Rattle.ams_tree.specs.declared.sequential.Seq.{Seq};
 ghost use Rattle.ams_tree.specs.Statements as grammar;
 ghost use Rattle.ams_tree.specs.Answer.{Spells, SpellsWithin, Begins, BeginsWithin};
-ghost use Rattle.parse_steps.specs.Reply.{Answers, IsTree, most_operators};
+ghost use Rattle.parse_steps.specs.Reply.{Answers, IsTree, most_levels, most_operators};
 
 use crate::compound::any_statement;
 use ams_token::{Token, Tokens};
 use ams_tree::Seq;
-use parse_steps::{ParseFault, Reader, fault_at};
+use parse_steps::{MOST_LEVELS, MOST_OPERATORS, ParseFault, Reader, fault_at};
 use std::alloc::Global;
-
-const MOST_LEVELS: u32 = 64;
-
-const MOST_OPERATORS: u32 = 256;
 
 /// Reads the statement that begins at a place, where `depth` levels are open. Answers the tree with the place behind it.
 pub fn statement(
@@ -23,11 +19,11 @@ pub fn statement(
     depth: u32,
 ) -> Result<(Seq, usize), ParseFault>
     requires place { at ≤ length tokens.now.list.items }
-    requires open { depth ≤ 64 }
+    requires open { depth ≤ most_levels }
     // The longest front that begins a statement is one, or the first place where none goes on or a limit is passed.
-    ensures answer { Answers grammar.statement (64 - depth) tokens.now.list.items at result }
+    ensures answer { Answers grammar.statement (most_levels - depth) tokens.now.list.items at result }
     // What a tree within the limits spells is read as that tree.
-    ensures back { (tree : Seq) → SpellsWithin grammar.statement (64 - depth) most_operators tree (drop at tokens.now.list.items) → IsTree tree (length tokens.now.list.items) result }
+    ensures back { (tree : Seq) → SpellsWithin grammar.statement (most_levels - depth) most_operators tree (drop at tokens.now.list.items) → IsTree tree (length tokens.now.list.items) result }
 {
     read(alloc, tokens.list.as_slice(), at, MOST_LEVELS - depth)
 }

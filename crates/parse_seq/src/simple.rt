@@ -7,6 +7,7 @@ ghost use Rattle.parse_seq.specs.Parsing as spec;
 
 use ams_token::{Mark, TokenKind, Word};
 use ams_tree::{Expr, Name, Report, Seq};
+use held_value::Held;
 use parse_expr::{name_of, outermost};
 use parse_parts::{
     assertion, break_elements, condition, maybe_delay, name, names_on, severity, string, waveform,
@@ -26,10 +27,10 @@ fn signal_assignment(
     ensures { Reads (spec.signal_assignment most_operators levels target reader.old) result reader.new }
 {
     reader.expect(TokenKind::Mark(Mark::LessEqual))?;
-    let delay = maybe_delay(alloc, reader, levels)?;
+    let delay = Held::new(maybe_delay(alloc, reader, levels)?);
     let waveform = waveform(alloc, reader, levels)?;
     reader.expect(SEMICOLON)?;
-    Ok(Seq::Signal(target, delay, waveform))
+    Ok(Seq::Signal(target, delay.into_inner(), waveform))
 }
 
 #[tactic(auto, using(parse_steps::proofs::Steps::terminal_seen), unfolding(crate::specs::Parsing::variable_assignment))]
@@ -42,9 +43,9 @@ fn variable_assignment(
     ensures { Reads (spec.variable_assignment most_operators levels target reader.old) result reader.new }
 {
     reader.expect(TokenKind::Mark(Mark::Assign))?;
-    let value = outermost(alloc, reader, levels)?;
+    let value = Held::new(outermost(alloc, reader, levels)?);
     reader.expect(SEMICOLON)?;
-    Ok(Seq::Variable(target, value))
+    Ok(Seq::Variable(target, value.into_inner()))
 }
 
 #[tactic(auto, using(parse_steps::proofs::Steps::terminal_seen), unfolding(crate::specs::Parsing::assignment))]
@@ -63,9 +64,9 @@ fn exit_statement(alloc: Global, reader: &mut Reader<'_>, levels: u32) -> Result
     ensures { Reads (spec.exit_statement most_operators levels reader.old) result reader.new }
 {
     let place = reader.expect(TokenKind::Word(Word::Exit))?;
-    let condition = condition(alloc, reader, levels)?;
+    let condition = Held::new(condition(alloc, reader, levels)?);
     reader.expect(SEMICOLON)?;
-    Ok(Seq::Exit(place, condition))
+    Ok(Seq::Exit(place, condition.into_inner()))
 }
 
 #[tactic(auto, using(parse_steps::proofs::Steps::terminal_seen), unfolding(crate::specs::Parsing::next_statement))]
@@ -73,9 +74,9 @@ fn next_statement(alloc: Global, reader: &mut Reader<'_>, levels: u32) -> Result
     ensures { Reads (spec.next_statement most_operators levels reader.old) result reader.new }
 {
     let place = reader.expect(TokenKind::Word(Word::Next))?;
-    let condition = condition(alloc, reader, levels)?;
+    let condition = Held::new(condition(alloc, reader, levels)?);
     reader.expect(SEMICOLON)?;
-    Ok(Seq::Next(place, condition))
+    Ok(Seq::Next(place, condition.into_inner()))
 }
 
 /// The expression behind a word, where that word comes next.
@@ -101,10 +102,10 @@ fn wait_statement(alloc: Global, reader: &mut Reader<'_>, levels: u32) -> Result
 {
     let place = reader.expect(TokenKind::Word(Word::Wait))?;
     let names = names_on(alloc, reader, levels)?;
-    let condition = behind(alloc, reader, levels, Word::Until)?;
-    let time = behind(alloc, reader, levels, Word::For)?;
+    let condition = Held::new(behind(alloc, reader, levels, Word::Until)?);
+    let time = Held::new(behind(alloc, reader, levels, Word::For)?);
     reader.expect(SEMICOLON)?;
-    Ok(Seq::Wait(place, names, condition, time))
+    Ok(Seq::Wait(place, names, condition.into_inner(), time.into_inner()))
 }
 
 #[tactic(auto, using(parse_steps::proofs::Steps::terminal_seen), unfolding(crate::specs::Parsing::report_statement))]
@@ -124,9 +125,9 @@ fn break_statement(alloc: Global, reader: &mut Reader<'_>, levels: u32) -> Resul
 {
     let place = reader.expect(TokenKind::Word(Word::Break))?;
     let elements = break_elements(alloc, reader, levels)?;
-    let condition = condition(alloc, reader, levels)?;
+    let condition = Held::new(condition(alloc, reader, levels)?);
     reader.expect(SEMICOLON)?;
-    Ok(Seq::Break(place, elements, condition))
+    Ok(Seq::Break(place, elements, condition.into_inner()))
 }
 
 #[tactic(auto, using(parse_steps::proofs::Steps::terminal_seen), unfolding(crate::specs::Parsing::null_statement))]
