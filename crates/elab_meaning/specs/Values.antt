@@ -1,5 +1,5 @@
 -- What is known of a value before the run (static expressions: IEEE 1076, 9.4).
-use Rattle.std.specs.Prelude.{ℕ, ◌-◌, ◌/◌, ◌%◌, ◌^◌, nat_eq, nat_lt, if◌then◌else◌, ℤ, pos, negsuc, ◌-ℤ◌, Option, Some, None, Result, Ok, Err}
+use Rattle.std.specs.Prelude.{ℕ, ◌-◌, ◌/◌, ◌%◌, ◌^◌, nat_eq, if◌then◌else◌, ℤ, pos, int_lt, unsigned_abs, ◌-ℤ◌, Option, Some, None, Result, Ok, Err}
 use Rattle.fix_core.specs.declared.NumFault.{NumFault}
 use Rattle.math_fix.specs.Functions.{exp_of, sin_of, cos_of, sqrt_of}
 use Rattle.ams_value.specs.declared.val.Val.{Val}
@@ -84,8 +84,9 @@ places_by Downto left i = left -ℤ i
 
 -- the element so many places behind the leftmost one, which is the highest bit of the content
 abbrev pub bit_of : ℕ → ℕ → ℤ → StaticValue
-bit_of length content (pos place) = if nat_lt place length then Known (val.Bit (nat_eq (content / 2 ^ (length - 1 - place) % 2) 1)) else Faulty
-bit_of length content (negsuc place) = Faulty
+bit_of length content place =
+    if int_lt place (pos 0) then Faulty
+    else (if int_lt place (pos length) then Known (val.Bit (nat_eq (content / 2 ^ (length - 1 - unsigned_abs place) % 2) 1)) else Faulty)
 
 abbrev pub element_of : IndexRange → Val → StaticValue → StaticValue
 element_of range (val.Bits length content) (Known (val.Int i)) = bit_of length content (places_by range.direction (pos range.left) i)
