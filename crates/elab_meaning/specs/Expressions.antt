@@ -93,15 +93,15 @@ parenthesized place (Some a) n = (n, Some (record { place = place; kind = a.kind
 -- ---- values that are asked before the run
 
 -- a fault of its evaluation is one of the expression
-abbrev pub settled : Typed → StaticValue → Notes → Notes × Option Asked
-settled t (known.Known v) n = (n, Some (record { kind = t.kind; value = Some v }))
-settled t known.Faulty n = (noted t.place WrongType n, None)
-settled t known.Later n = (n, Some (record { kind = t.kind; value = None }))
-settled t known.Changing n = (n, Some (record { kind = t.kind; value = None }))
+abbrev pub settled : Place → Kind → StaticValue → Notes → Notes × Option Asked
+settled place k (known.Known v) n = (n, Some (record { kind = k; value = Some v }))
+settled place k known.Faulty n = (noted place WrongType n, None)
+settled place k known.Later n = (n, Some (record { kind = k; value = None }))
+settled place k known.Changing n = (n, Some (record { kind = k; value = None }))
 
 abbrev pub asked : Found → Notes × Option Asked
 asked (n, None) = (n, None)
-asked (n, Some t) = settled t t.value n
+asked (n, Some t) = settled t.place t.kind t.value n
 
 abbrev pub static_in : Context → Context
 static_in c = record { surrounding = c.surrounding; is_static = true }

@@ -1,5 +1,5 @@
 -- Literals (IEEE 1076, 9.3.2), and times with their units (5.2.4).
-use Rattle.std.specs.Prelude.{ℕ, ◌+◌, ◌*◌, ◌/◌, ◌^◌, nat_eq, nat_lt, nat_le, ℤ, pos, negsuc, suc, ◌+ℤ◌, Bool, if◌then◌else◌, List, [], ◌∷◌, length, codes, Option, Some, None, Result, Ok, Err}
+use Rattle.std.specs.Prelude.{ℕ, ◌+◌, ◌*◌, ◌/◌, ◌^◌, nat_eq, nat_lt, nat_le, ℤ, pos, negsuc, int_lt, unsigned_abs, ◌+ℤ◌, Bool, if◌then◌else◌, List, [], ◌∷◌, length, codes, Option, Some, None, Result, Ok, Err}
 use Rattle.std.specs.List.{fold}
 use Rattle.std.specs.Str.{bytes_eq}
 use Rattle.fix_core.specs.Fixed.{decimal_of}
@@ -21,6 +21,7 @@ use Rattle.name_scope.specs.declared.thing.Thing.{Thing}
 use Rattle.name_scope.specs.declared.thing.Kind.TheVariants.{Of}
 use Rattle.elab_meaning.specs.declared.fault.Cause.TheVariants.{Unknown}
 use Rattle.elab_meaning.specs.declared.fault.Notes.{Notes}
+use Rattle.elab_meaning.specs.declared.typed.Scale.{Scale}
 use Rattle.elab_meaning.specs.declared.typed.StaticValue.TheVariants.{Known}
 use Rattle.elab_meaning.specs.Notes.{Found, noted, wrong, text_of}
 
@@ -53,11 +54,6 @@ number_literal (written.Real x) = real_literal x
 
 -- ---- times
 
--- a unit of time in ticks: so many times a power of ten
-pub record Scale : Type 0 where
-  pub factor : ℕ
-  pub power : ℤ
-
 abbrev pub scale_of : List ℕ → Option Scale
 scale_of text =
     if bytes_eq text (codes "fs") then Some (record { factor = 1; power = negsuc 2 })
@@ -72,16 +68,18 @@ scale_of text =
 
 -- m * 10 ^ p, without what stands behind the point
 abbrev pub truncated : ℕ → ℤ → ℕ
-truncated m (pos k) = m * 10 ^ k
-truncated m (negsuc k) = m / 10 ^ suc k
+truncated m p = if int_lt p (pos 0) then m / 10 ^ unsigned_abs p else m * 10 ^ unsigned_abs p
+
+abbrev pub tick_limit : ℕ
+tick_limit = 1000000000000000000
 
 abbrev pub ticks_at : ℕ → ℤ → Option Val
-ticks_at m p = if nat_le (truncated m p) 1000000000000000000 then Some (val.Time (pos (truncated m p))) else None
+ticks_at m p = if nat_le (truncated m p) tick_limit then Some (val.Time (pos (truncated m p))) else None
 
 -- the exact product of what is written and the unit
 abbrev pub time_literal : NumberValue → Scale → Option Val
-time_literal (written.Int x) s = ticks_at (integer_value x * s.factor) s.power
-time_literal (written.Real x) s = ticks_at (x.digits * s.factor) (x.power +ℤ s.power)
+time_literal (written.Int x) s = if nat_le (integer_value x) 2147483647 then ticks_at (integer_value x * s.factor) s.power else None
+time_literal (written.Real x) s = if nat_lt x.digits (10 ^ 32) then ticks_at (x.digits * s.factor) (x.power +ℤ s.power) else None
 
 -- behind a number a name that is no unit
 abbrev pub no_unit : Place → Name → Option Thing → Notes → Found

@@ -6,6 +6,7 @@ use Rattle.ams_value.specs.declared.val.Val.{Val}
 use Rattle.ams_value.specs.declared.val.Val.TheVariants as val
 use Rattle.ams_value.specs.declared.value_type.ValueType.{ValueType}
 use Rattle.ams_value.specs.declared.value_type.ValueType.TheVariants as t
+use Rattle.flat_expr.specs.declared.expr.SignalName.{SignalName}
 use Rattle.flat_expr.specs.declared.expr.SignalName.TheVariants as signal
 use Rattle.flat_expr.specs.declared.expr.Unknown.TheVariants as unknown
 use Rattle.flat_expr.specs.declared.expr.Direction.TheVariants.{To}
@@ -104,11 +105,11 @@ called place a f n = (n, Some (record { place = place; kind = Of (kind_of_call f
 -- ---- elements of vectors (8.4)
 
 -- the vector that a name stands for
-abbrev pub vector_at : Context → Name → Thing → Option Subtype
-vector_at c x (thing.Constant s v) = Some s
-vector_at c x (thing.Signal i s a) = Some s
-vector_at c x (thing.Variable i s) = Some s
-vector_at c x _ = None
+abbrev pub vector_at : Thing → Option Subtype
+vector_at (thing.Constant s v) = Some s
+vector_at (thing.Signal i s a) = Some s
+vector_at (thing.Variable i s) = Some s
+vector_at _ = None
 
 abbrev pub index_range : SubtypeConstraint → IndexRange
 index_range (constraint.Index r) = r
@@ -129,7 +130,7 @@ indexed c x thing (Some s) i n =
 
 abbrev pub applied : Context → Name → Thing → Option Function → Typed → Notes → Found
 applied c x thing (Some f) a n = called x.place a f n
-applied c x thing None a n = indexed c x thing (vector_at c x thing) a n
+applied c x thing None a n = indexed c x thing (vector_at thing) a n
 
 -- a name before its arguments
 abbrev pub call_with : Context → Name → Thing → List Typed → Notes → Found
@@ -150,25 +151,35 @@ missing x (Some t) n = n
 
 -- ---- attributes
 
--- 'event asks for a signal; a condition of an equation reads none
+abbrev pub signal_event : Context → Name → SignalName → Notes → Found
+signal_event c x s n = read c x.place (Of t.Boolean) (e.Event s) n
+
+-- 'event asks for a signal
 abbrev pub event_at : Context → Name → Option Thing → Notes → Found
 event_at c x None n = unknown_name x n
-event_at c x (Some (thing.Signal i s a)) n = read c x.place (Of t.Boolean) (e.Event (signal.Signal i)) n
-event_at c x (Some thing.Domain) n = read c x.place (Of t.Boolean) (e.Event signal.Domain) n
+event_at c x (Some (thing.Signal i s a)) n = signal_event c x (signal.Signal i) n
+event_at c x (Some thing.Domain) n = signal_event c x signal.Domain n
 event_at c x (Some thing.Faulty) n = (n, None)
 event_at c x (Some _) n = wrong x.place n
 
+-- a condition of an equation reads no event
+abbrev pub no_event : Name → Option Thing → Notes → Found
+no_event x None n = unknown_name x n
+no_event x (Some thing.Faulty) n = (n, None)
+no_event x (Some t) n = wrong x.place n
+
 abbrev pub event_in : Context → Surrounding → Name → Option Thing → Notes → Found
-event_in c Condition x None n = unknown_name x n
-event_in c Condition x (Some thing.Faulty) n = (n, None)
-event_in c Condition x (Some t) n = wrong x.place n
+event_in c Condition x t n = no_event x t n
 event_in c _ x t n = event_at c x t n
 
 -- 'dot asks for a quantity
+abbrev pub dot : Context → Name → ℕ → Notes → Found
+dot c x q n =
+    (dotted q (changing c x.place n), Some (record { place = x.place; kind = Of t.Real; expr = e.Unknown (unknown.Dot (place_of_dot q n.dots)); value = Changing }))
+
 abbrev pub dot_at : Context → Name → Option Thing → Notes → Found
 dot_at c x None n = unknown_name x n
-dot_at c x (Some (thing.Quantity q k)) n =
-    (dotted q (changing c x.place n), Some (record { place = x.place; kind = Of t.Real; expr = e.Unknown (unknown.Dot (place_of_dot q n.dots)); value = Changing }))
+dot_at c x (Some (thing.Quantity q k)) n = dot c x q n
 dot_at c x (Some thing.Faulty) n = (n, None)
 dot_at c x (Some _) n = wrong x.place n
 

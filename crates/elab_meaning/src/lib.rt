@@ -10,4 +10,4 @@ mod typed;
 pub use book::Book;
 pub use fault::{Cause, Fault, Notes};
 pub use part::Part;
-pub use typed::{Asked, Context, StaticValue, Surrounding, Typed, Valued};
+pub use typed::{Asked, Context, Scale, StaticValue, Surrounding, Typed, Valued};

@@ -56,3 +56,10 @@ pub struct Valued {
     pub subtype: Subtype,
     pub value: Option<Val>,
 }
+
+/// A unit of time in ticks: so many times a power of ten.
+#[derive(Clone, Copy, Debug, PartialEq, Eq)]
+pub struct Scale {
+    pub factor: u32,
+    pub power: i32,
+}
