@@ -2,3 +2,4 @@ pub mod Vectors
 pub mod Times
 pub mod Powers
 pub mod Typed
+pub mod Ranged

@@ -11,10 +11,10 @@ use Rattle.fix_core.specs.Fixed.{one, sum_of, difference_of, product_of, quotien
 use Rattle.fix_core.specs.Laws.{sum_in_range, difference_in_range, product_in_range, quotient_in_range}
 use Rattle.ams_value.specs.declared.fault.ValFault.{ValFault}
 use Rattle.ams_value.specs.declared.fault.ValFault.TheVariants.{Range, Overflow, DivideByZero}
-use Rattle.ams_value.specs.declared.op.Op1.{Op1}
-use Rattle.ams_value.specs.declared.op.Op1.TheVariants.{Plus, Minus, Abs, Not}
-use Rattle.ams_value.specs.declared.op.Op2.{Op2}
-use Rattle.ams_value.specs.declared.op.Op2.TheVariants.{And, Or, Nand, Nor, Xor, Xnor, Equal, NotEqual, Less, LessEqual, Greater, GreaterEqual, Sll, Srl, Sla, Sra, Rol, Ror, Add, Subtract, Concat, Multiply, Divide, Mod, Rem, Power}
+use Rattle.ams_value.specs.declared.op.UnaryOperator.{UnaryOperator}
+use Rattle.ams_value.specs.declared.op.UnaryOperator.TheVariants.{Plus, Minus, Abs, Not}
+use Rattle.ams_value.specs.declared.op.BinaryOperator.{BinaryOperator}
+use Rattle.ams_value.specs.declared.op.BinaryOperator.TheVariants.{And, Or, Nand, Nor, Xor, Xnor, Equal, NotEqual, Less, LessEqual, Greater, GreaterEqual, Sll, Srl, Sla, Sra, Rol, Ror, Add, Subtract, Concat, Multiply, Divide, Mod, Rem, Power}
 use Rattle.ams_value.specs.declared.val.Val.{Val}
 use Rattle.ams_value.specs.declared.val.Val.TheVariants.{Bool as Boolean, Bit, Int, Real, Time, Bits}
 use Rattle.ams_value.specs.declared.value_type.ValueType.{ValueType}
@@ -82,7 +82,7 @@ all_ones-lt : (n x : ℕ) → all_ones n - x < 2 ^ n
 unfolding all_ones
 all_ones-lt n x = let some : 0 < 2 ^ n = power_pos n in omega arith
 
-bits-lt : (op : Op2) (n a b : ℕ) → a < 2 ^ n → b < 2 ^ n → bits_of op n a b < 2 ^ n
+bits-lt : (op : BinaryOperator) (n a b : ℕ) → a < 2 ^ n → b < 2 ^ n → bits_of op n a b < 2 ^ n
 bits-lt And n a b ha hb = omega (arith, and_le_l a b)
 bits-lt Or n a b ha hb = or_lt n a b ha hb
 bits-lt Nand n a b ha hb = all_ones-lt n _
@@ -94,7 +94,7 @@ bits-lt _ n a b ha hb = power_pos n
 vector_known : (m n : ℕ) → IsSome (logical_type (kind.BitVector m) (kind.BitVector n)) → logical_type (kind.BitVector m) (kind.BitVector n) ≡ Some (kind.BitVector m)
 vector_known m n k = grind arith
 
-logical_typed : (op : Op2) (a b v : Val) → Fit logical_type a b → logical_of op a b ≡ Ok v → IsOf (logical_type (type_of a) (type_of b)) v
+logical_typed : (op : BinaryOperator) (a b v : Val) → Fit logical_type a b → logical_of op a b ≡ Ok v → IsOf (logical_type (type_of a) (type_of b)) v
 unfolding logical_of
 logical_typed op (Boolean a) (Boolean b) v f e = is_of (Some kind.Boolean) (Boolean (truth_of op a b)) v tt refl e
 logical_typed op (Bit a) (Bit b) v f e = is_of (Some kind.Bit) (Bit (truth_of op a b)) v tt refl e
@@ -121,7 +121,7 @@ equality_known s t k = order_known s t k
 
 -- ---- shifts and concatenation
 
-shift_typed : (op : Op2) (a b v : Val) → Fit shift_type a b → shift_of op a b ≡ Ok v → IsOf (shift_type (type_of a) (type_of b)) v
+shift_typed : (op : BinaryOperator) (a b v : Val) → Fit shift_type a b → shift_of op a b ≡ Ok v → IsOf (shift_type (type_of a) (type_of b)) v
 unfolding shift_of
 shift_typed op (Bits n a) (Int (pos k)) v f e = is_of (Some (kind.BitVector n)) (Bits n (shifted op n k a)) v (f.left.0, shifted-lt op n k a f.left.1) refl e
 shift_typed op (Bits n a) (Int (negsuc k)) v f e = is_of (Some (kind.BitVector n)) (Bits n (shifted (opposite op) n (suc k) a)) v (f.left.0, shifted-lt (opposite op) n (suc k) a f.left.1) refl e
@@ -264,7 +264,7 @@ not_typed (Bit a) v i k e = is_of (Some kind.Bit) _ v tt refl e
 not_typed (Bits n a) v i k e = is_of (Some (kind.BitVector n)) (Bits n (all_ones n - a)) v (i.0, all_ones-lt n a) refl e
 not_typed _ v i k e = absurd (search rules)
 
-unary_typed : (op : Op1) (a v : Val) → IsTypedUnary op a → unary_of op a ≡ Ok v → IsOf (unary_type op (type_of a)) v
+unary_typed : (op : UnaryOperator) (a v : Val) → IsTypedUnary op a → unary_of op a ≡ Ok v → IsOf (unary_type op (type_of a)) v
 unfolding unary_of
 unary_typed Plus a v f e = plus_typed a v f.operand f.known e
 unary_typed Minus a v f e = minus_typed a v f.operand f.known e
@@ -273,7 +273,7 @@ unary_typed Not a v f e = not_typed a v f.operand f.known e
 
 -- ---- operators with two operands
 
-binary_typed : (op : Op2) (a b v : Val) → IsTypedBinary op a b → binary_of op a b ≡ Ok v → IsOf (binary_type op (type_of a) (type_of b)) v
+binary_typed : (op : BinaryOperator) (a b v : Val) → IsTypedBinary op a b → binary_of op a b ≡ Ok v → IsOf (binary_type op (type_of a) (type_of b)) v
 unfolding binary_of
 binary_typed And a b v f e = logical_typed And a b v f e
 binary_typed Or a b v f e = logical_typed Or a b v f e
@@ -307,7 +307,7 @@ results_typed = record { unary = unary_typed; binary = binary_typed }
 
 -- ---- what the left operand decides
 
-truth_decided : (op : Op2) (a b c : Bool) → decided_truth op a ≡ Some c → truth_of op a b ≡ c
+truth_decided : (op : BinaryOperator) (a b c : Bool) → decided_truth op a ≡ Some c → truth_of op a b ≡ c
 truth_decided And true b c e = absurd cc
 truth_decided And false b c e = cc
 truth_decided Or true b c e = cc
@@ -322,14 +322,14 @@ kind_decided : (kind : Bool → Val) (o : Option Bool) (b : Bool) (v : Val) → 
 kind_decided kind (Some c) b v known e = let same : b ≡ c = known c refl in rw same (let done : kind c ≡ v = cc in ap Ok done)
 kind_decided kind None b v known e = absurd cc
 
-logical_decided : (op : Op2) (a b v : Val) → Fit logical_type a b → decided_by op a ≡ Some v → logical_of op a b ≡ Ok v
+logical_decided : (op : BinaryOperator) (a b v : Val) → Fit logical_type a b → decided_by op a ≡ Some v → logical_of op a b ≡ Ok v
 unfolding logical_of decided_by
 logical_decided op (Boolean a) (Boolean b) v f e = kind_decided Boolean (decided_truth op a) (truth_of op a b) v (λ c q. truth_decided op a b c q) e
 logical_decided op (Bit a) (Bit b) v f e = kind_decided Bit (decided_truth op a) (truth_of op a b) v (λ c q. truth_decided op a b c q) e
 logical_decided op (Bits m a) (Bits n b) v f e = absurd cc
 logical_decided op _ _ v f e = absurd (search (rules, f.known))
 
-not_logical : (op : Op2) (a v : Val) → ((x : Bool) → decided_truth op x ≡ None) → decided_by op a ≡ Some v → ⊥
+not_logical : (op : BinaryOperator) (a v : Val) → ((x : Bool) → decided_truth op x ≡ None) → decided_by op a ≡ Some v → ⊥
 unfolding decided_by
 not_logical op (Boolean a) v none e = let h : decided_truth op a ≡ None = none a in let g : same_kind Boolean None ≡ Some v = rw h at e in cc
 not_logical op (Bit a) v none e = let h : decided_truth op a ≡ None = none a in let g : same_kind Bit None ≡ Some v = rw h at e in cc

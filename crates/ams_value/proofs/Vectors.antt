@@ -6,8 +6,8 @@ use Rattle.std.proofs.lemmas.Int.{ints}
 use Rattle.std.proofs.Math.Nat.{pow-le-pow_right, div-eq_of_lt, mod-eq_of_lt, div-le_self}
 use Rattle.std.specs.Prelude.{min, unsigned_abs, bit_and, bit_or, bit_xor, IsSome}
 use Rattle.ams_value.specs.declared.value_type.ValueType.TheVariants.{BitVector}
-use Rattle.ams_value.specs.declared.op.Op2.{Op2}
-use Rattle.ams_value.specs.declared.op.Op2.TheVariants.{Sll, Srl, Sla, Sra, Rol, Ror}
+use Rattle.ams_value.specs.declared.op.BinaryOperator.{BinaryOperator}
+use Rattle.ams_value.specs.declared.op.BinaryOperator.TheVariants.{Sll, Srl, Sla, Sra, Rol, Ror}
 use Rattle.ams_value.specs.declared.val.Val.{Val}
 use Rattle.ams_value.specs.declared.val.Val.TheVariants.{Bit, Bits, Int}
 use Rattle.ams_value.specs.Types.{Fit, logical_type, concat_type, IsValue, type_of}
@@ -137,7 +137,7 @@ none_of j k = let e : 0 % 2 ^ j ≡ 0 = omega arith in rw e (omega arith)
 rotated_none : (n k : ℕ) → rotated n k 0 ≡ 0
 rotated_none n k = let e = none_of (n - k) k in omega arith
 
-empty : (op : Op2) (k : ℕ) → shifted op 0 k 0 ≡ 0
+empty : (op : BinaryOperator) (k : ℕ) → shifted op 0 k 0 ≡ 0
 empty Sll k = none_of (0 - k) k
 empty Srl k = omega arith
 empty Sla k = omega (arith, none_of (0 - k) k)
@@ -146,7 +146,7 @@ empty Rol k = rotated_none 0 (k % 0)
 empty Ror k = rotated_none 0 (0 - k % 0)
 empty _ k = refl
 
-pub shifted_empty : (op : Op2) (k a : ℕ) → a < 2 ^ 0 → shifted op 0 k a ≡ 0
+pub shifted_empty : (op : BinaryOperator) (k a : ℕ) → a < 2 ^ 0 → shifted op 0 k a ≡ 0
 shifted_empty op k zero h = empty op k
 shifted_empty op k (suc a) h = absurd (omega arith)
 
@@ -200,7 +200,7 @@ sra-lt n k a h =
       ])
     ]
 
-some_shifted-lt : (op : Op2) (n k a : ℕ) → 0 < n → a < 2 ^ n → shifted op n k a < 2 ^ n
+some_shifted-lt : (op : BinaryOperator) (n k a : ℕ) → 0 < n → a < 2 ^ n → shifted op n k a < 2 ^ n
 some_shifted-lt Sll n k a some h = left-lt n k a
 some_shifted-lt Srl n k a some h = right-lt n k a h
 some_shifted-lt Sla n k a some h = sla-lt n k a
@@ -209,7 +209,7 @@ some_shifted-lt Rol n k a some h = rotated-lt n (k % n) a (omega (arith, mod_bel
 some_shifted-lt Ror n k a some h = rotated-lt n (n - k % n) a (omega arith) h
 some_shifted-lt _ n k a some h = power_pos n
 
-pub shifted-lt : (op : Op2) (n k a : ℕ) → a < 2 ^ n → shifted op n k a < 2 ^ n
+pub shifted-lt : (op : BinaryOperator) (n k a : ℕ) → a < 2 ^ n → shifted op n k a < 2 ^ n
 shifted-lt op n k a h =
     elim (cases_eq n 0) [
       | inl none ↦ let e : shifted op 0 k a ≡ 0 = shifted_empty op k a (rw none at h) in rw (none, e) (omega arith)
@@ -228,12 +228,12 @@ sra_fits n k a h lt = fits_64 n (right_shifted k a + first_filled n k a) h (sra-
 pub ruleset shifts = (shifted_empty, sla_fits, sra_fits, mod_below)
 
 -- the way of a shift by the sign of its places
-pub shift_right_way : (op : Op2) (n a : ℕ) (k : ℤ) → pos 0 ≤ℤ k → shift_of op (Bits n a) (Int k) ≡ Ok (Bits n (shifted op n (unsigned_abs k) a))
+pub shift_right_way : (op : BinaryOperator) (n a : ℕ) (k : ℤ) → pos 0 ≤ℤ k → shift_of op (Bits n a) (Int k) ≡ Ok (Bits n (shifted op n (unsigned_abs k) a))
 unfolding shift_of
 shift_right_way op n a (pos k) h = refl
 shift_right_way op n a (negsuc k) h = absurd (omega (arith, ints))
 
-pub shift_other_way : (op : Op2) (n a : ℕ) (k : ℤ) → k <ℤ pos 0 → shift_of op (Bits n a) (Int k) ≡ Ok (Bits n (shifted (opposite op) n (unsigned_abs k) a))
+pub shift_other_way : (op : BinaryOperator) (n a : ℕ) (k : ℤ) → k <ℤ pos 0 → shift_of op (Bits n a) (Int k) ≡ Ok (Bits n (shifted (opposite op) n (unsigned_abs k) a))
 unfolding shift_of
 shift_other_way op n a (pos k) h = absurd (omega (arith, ints))
 shift_other_way op n a (negsuc k) h = refl

@@ -1,9 +1,11 @@
 -- The types of values, and the operators' types (IEEE 1076-2008, 9.2).
-use Rattle.std.specs.Prelude.{ℕ, ◌+◌, ◌<◌, ◌≤◌, ◌^◌, unsigned_abs, nat_eq, nat_le, if◌then◌else◌, Option, Some, None, IsSome}
-use Rattle.ams_value.specs.declared.op.Op1.{Op1}
-use Rattle.ams_value.specs.declared.op.Op1.TheVariants.{Plus, Minus, Abs, Not}
-use Rattle.ams_value.specs.declared.op.Op2.{Op2}
-use Rattle.ams_value.specs.declared.op.Op2.TheVariants.{And, Or, Nand, Nor, Xor, Xnor, Equal, NotEqual, Less, LessEqual, Greater, GreaterEqual, Sll, Srl, Sla, Sra, Rol, Ror, Add, Subtract, Concat, Multiply, Divide, Mod, Rem, Power}
+use Rattle.std.specs.Prelude.{ℕ, ◌+◌, ◌<◌, ◌≤◌, ◌^◌, unsigned_abs, nat_eq, nat_le, nat_lt, ◌&&◌, Bool, true, if◌then◌else◌, List, get_or, Option, Some, None, IsSome}
+use Rattle.fix_core.specs.Units.{most_units, most_ticks}
+use Rattle.ams_value.specs.Ranges.{most_integer, most_elements}
+use Rattle.ams_value.specs.declared.op.UnaryOperator.{UnaryOperator}
+use Rattle.ams_value.specs.declared.op.UnaryOperator.TheVariants.{Plus, Minus, Abs, Not}
+use Rattle.ams_value.specs.declared.op.BinaryOperator.{BinaryOperator}
+use Rattle.ams_value.specs.declared.op.BinaryOperator.TheVariants.{And, Or, Nand, Nor, Xor, Xnor, Equal, NotEqual, Less, LessEqual, Greater, GreaterEqual, Sll, Srl, Sla, Sra, Rol, Ror, Add, Subtract, Concat, Multiply, Divide, Mod, Rem, Power}
 use Rattle.ams_value.specs.declared.val.Val.{Val}
 use Rattle.ams_value.specs.declared.val.Val.TheVariants as val
 use Rattle.ams_value.specs.declared.value_type.ValueType.{ValueType}
@@ -19,19 +21,29 @@ type_of (val.Time t) = Time
 type_of (val.Enum number position) = Enumeration number
 type_of (val.Bits length content) = BitVector length
 
--- at most 64 elements, and no bit beyond them
+-- so many elements at most, and no bit beyond them
 abbrev pub IsVector : ℕ → ℕ → Type 0
-IsVector length content = (length ≤ 64) × (content < 2 ^ length)
+IsVector length content = (length ≤ most_elements) × (content < 2 ^ length)
 
 -- what a value holds lies in the range of its type
 abbrev pub IsValue : Val → Type 0
 IsValue (val.Bool b) = Unit {0}
 IsValue (val.Bit b) = Unit {0}
-IsValue (val.Int i) = unsigned_abs i ≤ 2147483647
-IsValue (val.Real r) = unsigned_abs r ≤ 1000000000000000000000000
-IsValue (val.Time t) = unsigned_abs t ≤ 1000000000000000000
+IsValue (val.Int i) = unsigned_abs i ≤ most_integer
+IsValue (val.Real r) = unsigned_abs r ≤ most_units
+IsValue (val.Time t) = unsigned_abs t ≤ most_ticks
 IsValue (val.Enum number position) = Unit {0}
 IsValue (val.Bits length content) = IsVector length content
+
+-- the same as a test, which asks of an enumeration value too that its position is one of its type's literals. The list has the number of literals of each enumeration type
+abbrev pub is_in_range : List ℕ → Val → Bool
+is_in_range literals (val.Bool b) = true
+is_in_range literals (val.Bit b) = true
+is_in_range literals (val.Int i) = nat_le (unsigned_abs i) most_integer
+is_in_range literals (val.Real r) = nat_le (unsigned_abs r) most_units
+is_in_range literals (val.Time t) = nat_le (unsigned_abs t) most_ticks
+is_in_range literals (val.Enum number position) = nat_lt position (get_or literals number 0)
+is_in_range literals (val.Bits length content) = nat_le length most_elements && nat_lt content (2 ^ length)
 
 -- ---- the types of results, by the types of the operands
 
@@ -49,7 +61,7 @@ truth_type Bit = Some Bit
 truth_type (BitVector n) = Some (BitVector n)
 truth_type _ = None
 
-abbrev pub unary_type : Op1 → ValueType → Option ValueType
+abbrev pub unary_type : UnaryOperator → ValueType → Option ValueType
 unary_type Plus t = number_type t
 unary_type Minus t = number_type t
 unary_type Abs t = number_type t
@@ -87,9 +99,9 @@ sum_type Real Real = Some Real
 sum_type Time Time = Some Time
 sum_type _ _ = None
 
--- bits of at most 64 elements
+-- bits of so many elements
 abbrev pub vector_type : ℕ → Option ValueType
-vector_type n = if nat_le n 64 then Some (BitVector n) else None
+vector_type n = if nat_le n most_elements then Some (BitVector n) else None
 
 abbrev pub concat_type : ValueType → ValueType → Option ValueType
 concat_type Bit Bit = Some (BitVector 2)
@@ -124,7 +136,7 @@ power_type Integer Integer = Some Integer
 power_type Real Integer = Some Real
 power_type _ _ = None
 
-abbrev pub binary_type : Op2 → ValueType → ValueType → Option ValueType
+abbrev pub binary_type : BinaryOperator → ValueType → ValueType → Option ValueType
 binary_type And s t = logical_type s t
 binary_type Or s t = logical_type s t
 binary_type Nand s t = logical_type s t
@@ -160,9 +172,9 @@ pub record Fit (table : ValueType → ValueType → Option ValueType) (a b : Val
   pub right : IsValue b
   pub known : IsSome (table (type_of a) (type_of b))
 
-pub record IsTypedUnary (op : Op1) (a : Val) : Type 0 where
+pub record IsTypedUnary (op : UnaryOperator) (a : Val) : Type 0 where
   pub operand : IsValue a
   pub known : IsSome (unary_type op (type_of a))
 
-abbrev pub IsTypedBinary : Op2 → Val → Val → Type 0
+abbrev pub IsTypedBinary : BinaryOperator → Val → Val → Type 0
 IsTypedBinary op a b = Fit (binary_type op) a b

@@ -2,34 +2,54 @@
 use Rattle.std.specs.Prelude.{ℕ, zero, suc, ◌+◌, ◌-◌, ◌*◌, ◌/◌, ◌%◌, ◌^◌, min, ℤ, pos, negsuc, ◌+ℤ◌, ◌-ℤ◌, ◌*ℤ◌, neg_ℤ, unsigned_abs, int_lt, int_div, int_rem, Bool, true, false, not, ◌&&◌, ◌||◌, nat_eq, nat_lt, nat_le, if◌then◌else◌, bit_and, bit_or, bit_xor, Option, Some, None, Result, Ok, Err}
 use Rattle.std.specs.Ordering.{int_eq}
 use Rattle.std.specs.Int.{int_rem_euclid}
+use Rattle.message_codes.specs.Codes.{range, value_overflow, value_divide_by_zero}
 use Rattle.fix_core.specs.declared.NumFault.{NumFault}
 use Rattle.fix_core.specs.declared.NumFault.TheVariants as number
 use Rattle.fix_core.specs.Rounding.{rnd}
 use Rattle.fix_core.specs.Passes.{and_then}
 use Rattle.fix_core.specs.Fixed.{one, sum_of, difference_of, product_of, quotient_of}
+use Rattle.fix_core.specs.Units.{most_ticks}
+use Rattle.ams_value.specs.Ranges.{most_integer, most_exponent}
 use Rattle.ams_value.specs.declared.fault.ValFault.{ValFault}
 use Rattle.ams_value.specs.declared.fault.ValFault.TheVariants.{Range, Overflow, DivideByZero}
-use Rattle.ams_value.specs.declared.op.Op1.{Op1}
-use Rattle.ams_value.specs.declared.op.Op1.TheVariants.{Plus, Minus, Abs, Not}
-use Rattle.ams_value.specs.declared.op.Op2.{Op2}
-use Rattle.ams_value.specs.declared.op.Op2.TheVariants.{And, Or, Nand, Nor, Xor, Xnor, Equal, NotEqual, Less, LessEqual, Greater, GreaterEqual, Sll, Srl, Sla, Sra, Rol, Ror, Add, Subtract, Concat, Multiply, Divide, Mod, Rem, Power}
+use Rattle.ams_value.specs.declared.op.UnaryOperator.{UnaryOperator}
+use Rattle.ams_value.specs.declared.op.UnaryOperator.TheVariants.{Plus, Minus, Abs, Not}
+use Rattle.ams_value.specs.declared.op.BinaryOperator.{BinaryOperator}
+use Rattle.ams_value.specs.declared.op.BinaryOperator.TheVariants.{And, Or, Nand, Nor, Xor, Xnor, Equal, NotEqual, Less, LessEqual, Greater, GreaterEqual, Sll, Srl, Sla, Sra, Rol, Ror, Add, Subtract, Concat, Multiply, Divide, Mod, Rem, Power}
 use Rattle.ams_value.specs.declared.val.Val.{Val}
 use Rattle.ams_value.specs.declared.val.Val.TheVariants.{Bool as Boolean, Bit, Int, Real, Time, Enum, Bits}
 
 abbrev pub code_of : ValFault → ℕ
-code_of Range = 30
-code_of Overflow = 31
-code_of DivideByZero = 32
+code_of Range = range
+code_of Overflow = value_overflow
+code_of DivideByZero = value_divide_by_zero
+
+-- ---- what a value holds
+
+-- the units of a REAL value, and 0 of another one
+abbrev pub units_of : Val → ℤ
+units_of (Real r) = r
+units_of _ = pos 0
+
+-- the ticks of a TIME value, and 0 of another one
+abbrev pub ticks_of : Val → ℤ
+ticks_of (Time t) = t
+ticks_of _ = pos 0
+
+-- the value TRUE
+abbrev pub is_true : Val → Bool
+is_true (Boolean b) = b
+is_true _ = false
 
 -- ---- results in their types
 
--- from -2147483647 to 2147483647
+-- an integer in its range
 unfoldable pub integer_ranged : ℤ → Result Val ValFault
-integer_ranged z = if nat_le (unsigned_abs z) 2147483647 then Ok (Int z) else Err Overflow
+integer_ranged z = if nat_le (unsigned_abs z) most_integer then Ok (Int z) else Err Overflow
 
--- ticks of at most 10 ^ 18 in magnitude
+-- a time in its range
 unfoldable pub time_ranged : ℤ → Result Val ValFault
-time_ranged z = if nat_le (unsigned_abs z) 1000000000000000000 then Ok (Time z) else Err Overflow
+time_ranged z = if nat_le (unsigned_abs z) most_ticks then Ok (Time z) else Err Overflow
 
 abbrev pub fault_of : NumFault → ValFault
 fault_of number.Overflow = Overflow
@@ -46,7 +66,7 @@ divided_by d r = if nat_eq (unsigned_abs d) 0 then Err DivideByZero else r
 
 -- ---- logical operators, on truth values and on the bits of vectors of n elements
 
-abbrev pub truth_of : Op2 → Bool → Bool → Bool
+abbrev pub truth_of : BinaryOperator → Bool → Bool → Bool
 truth_of And a b = a && b
 truth_of Or a b = a || b
 truth_of Nand a b = not (a && b)
@@ -59,7 +79,7 @@ truth_of _ a b = false
 unfoldable pub all_ones : ℕ → ℕ
 all_ones n = 2 ^ n - 1
 
-abbrev pub bits_of : Op2 → ℕ → ℕ → ℕ → ℕ
+abbrev pub bits_of : BinaryOperator → ℕ → ℕ → ℕ → ℕ
 bits_of And n a b = bit_and a b
 bits_of Or n a b = bit_or a b
 bits_of Nand n a b = all_ones n - bit_and a b
@@ -68,14 +88,14 @@ bits_of Xor n a b = bit_xor a b
 bits_of Xnor n a b = all_ones n - bit_xor a b
 bits_of _ n a b = 0
 
-unfoldable pub logical_of : Op2 → Val → Val → Result Val ValFault
+unfoldable pub logical_of : BinaryOperator → Val → Val → Result Val ValFault
 logical_of op (Boolean a) (Boolean b) = Ok (Boolean (truth_of op a b))
 logical_of op (Bit a) (Bit b) = Ok (Bit (truth_of op a b))
 logical_of op (Bits m a) (Bits n b) = Ok (Bits m (bits_of op m a b))
 logical_of op _ _ = Err Range
 
 -- the value of a logical operator on truth values where its left operand decides it, which it does but for xor and xnor
-abbrev pub decided_truth : Op2 → Bool → Option Bool
+abbrev pub decided_truth : BinaryOperator → Bool → Option Bool
 decided_truth And false = Some false
 decided_truth Or true = Some true
 decided_truth Nand false = Some true
@@ -86,7 +106,7 @@ abbrev pub same_kind : (Bool → Val) → Option Bool → Option Val
 same_kind kind (Some b) = Some (kind b)
 same_kind kind None = None
 
-unfoldable pub decided_by : Op2 → Val → Option Val
+unfoldable pub decided_by : BinaryOperator → Val → Option Val
 decided_by op (Boolean a) = same_kind Boolean (decided_truth op a)
 decided_by op (Bit a) = same_kind Bit (decided_truth op a)
 decided_by op _ = None
@@ -140,7 +160,7 @@ first_filled n k a = if nat_eq (a / 2 ^ (n - 1)) 0 then 0 else 2 ^ n - 2 ^ (n - 
 abbrev pub rotated : ℕ → ℕ → ℕ → ℕ
 rotated n k a = a % 2 ^ (n - k) * 2 ^ k + a / 2 ^ (n - k)
 
-abbrev pub shifted : Op2 → ℕ → ℕ → ℕ → ℕ
+abbrev pub shifted : BinaryOperator → ℕ → ℕ → ℕ → ℕ
 shifted Sll n k a = left_shifted n k a
 shifted Srl n k a = right_shifted k a
 shifted Sla n k a = left_shifted n k a + last_filled n k a
@@ -150,7 +170,7 @@ shifted Ror n k a = rotated n (n - k % n) a
 shifted _ n k a = 0
 
 -- the same shift the other way
-abbrev pub opposite : Op2 → Op2
+abbrev pub opposite : BinaryOperator → BinaryOperator
 opposite Sll = Srl
 opposite Srl = Sll
 opposite Sla = Sra
@@ -159,7 +179,7 @@ opposite Rol = Ror
 opposite Ror = Rol
 opposite op = op
 
-unfoldable pub shift_of : Op2 → Val → Val → Result Val ValFault
+unfoldable pub shift_of : BinaryOperator → Val → Val → Result Val ValFault
 shift_of op (Bits n a) (Int (pos k)) = Ok (Bits n (shifted op n k a))
 shift_of op (Bits n a) (Int (negsuc k)) = Ok (Bits n (shifted (opposite op) n (suc k) a))
 shift_of op _ _ = Err Range
@@ -246,7 +266,7 @@ remainder_value _ _ = Err Range
 
 -- a product of integers that is itself an operand again
 unfoldable pub integer_product : ℤ → ℤ → Result ℤ ValFault
-integer_product a b = if nat_le (unsigned_abs (a *ℤ b)) 2147483647 then Ok (a *ℤ b) else Err Overflow
+integer_product a b = if nat_le (unsigned_abs (a *ℤ b)) most_integer then Ok (a *ℤ b) else Err Overflow
 
 -- a number times itself: n - 1 products from the left, and 1 for n of 0
 unfoldable pub powers : {E : Type 0} → (ℤ → ℤ → Result ℤ E) → ℤ → ℤ → ℕ → Result ℤ E
@@ -264,9 +284,9 @@ abbrev pub integer_result : Result ℤ ValFault → Result Val ValFault
 integer_result (Ok z) = Ok (Int z)
 integer_result (Err e) = Err e
 
--- an exponent is from 0 to 64
+-- an exponent is from 0 to the greatest one
 unfoldable pub with_exponent : ℤ → (ℕ → Result Val ValFault) → Result Val ValFault
-with_exponent (pos n) power = if nat_le n 64 then power n else Err Range
+with_exponent (pos n) power = if nat_le n most_exponent then power n else Err Range
 with_exponent (negsuc n) power = Err Range
 
 unfoldable pub power_value : Val → Val → Result Val ValFault
@@ -294,13 +314,13 @@ inverted (Bit a) = Bit (not a)
 inverted (Bits n a) = Bits n (all_ones n - a)
 inverted a = a
 
-unfoldable pub unary_of : Op1 → Val → Result Val ValFault
+unfoldable pub unary_of : UnaryOperator → Val → Result Val ValFault
 unary_of Plus a = Ok a
 unary_of Minus a = Ok (negated a)
 unary_of Abs a = Ok (magnitude_of a)
 unary_of Not a = Ok (inverted a)
 
-unfoldable pub binary_of : Op2 → Val → Val → Result Val ValFault
+unfoldable pub binary_of : BinaryOperator → Val → Val → Result Val ValFault
 binary_of And a b = logical_of And a b
 binary_of Or a b = logical_of Or a b
 binary_of Nand a b = logical_of Nand a b
@@ -332,7 +352,7 @@ binary_of Power a b = power_value a b
 
 -- `integer(r)`: the nearest integer, halves away from 0, and Range where it is none
 unfoldable pub integer_of : ℤ → Result ℤ ValFault
-integer_of r = if nat_le (unsigned_abs (rnd r one)) 2147483647 then Ok (rnd r one) else Err Range
+integer_of r = if nat_le (unsigned_abs (rnd r one)) most_integer then Ok (rnd r one) else Err Range
 
 -- `real(i)`
 abbrev pub real_of : ℤ → ℤ

@@ -1,21 +1,26 @@
 //! Arithmetic on integers, reals and times.
 ghost use Rattle.std.specs.Prelude.{◌≡◌, ◌<◌, ◌≤◌, ◌*ℤ◌, unsigned_abs};
+ghost use Rattle.fix_core.specs.Units.{most_ticks};
+ghost use Rattle.ams_value.specs.Ranges.{most_integer};
 ghost use Rattle.ams_value.specs.Types.{Fit, sum_type, product_type, quotient_type, remainder_type, power_type};
 ghost use Rattle.ams_value.specs.Values.{integer_ranged, time_ranged, real_result, fault_of, sum_value, difference_value, time_by_real, time_over_real, time_quotient, product_value, quotient_value, modulus_value, remainder_value, integer_quotient, integer_modulus, integer_remainder};
 
 use crate::fault::ValFault;
-use crate::val::Val;
-use fix_core::{Fix, NumFault, round_quotient};
+use crate::val::{MOST_INTEGER, Val};
+use fix_core::{Fix, MOST_TICKS, NumFault, UNITS_PER_ONE, round_quotient};
 
 /// The units of 1.0.
-const ONE: i128 = 1_000_000_000_000;
+const ONE: i128 = UNITS_PER_ONE as i128;
+
+/// The least product of ticks by units whose quotient by `ONE` is surely past the range of TIME.
+const PRODUCT_END: u128 = 2 * MOST_TICKS as u128 * UNITS_PER_ONE;
 
 /// An integer as a result, where it is in the range of INTEGER.
 #[tactic(auto, unfolding(crate::specs::Values::integer_ranged))]
 fn integer(z: i64) -> Result<Val, ValFault>
     ensures { result ≡ integer_ranged z }
 {
-    if z.unsigned_abs() <= 2_147_483_647 {
+    if z.unsigned_abs() <= u64::from(MOST_INTEGER) {
         Ok(Val::Int(z as i32))
     } else {
         Err(ValFault::Overflow)
@@ -27,7 +32,7 @@ fn integer(z: i64) -> Result<Val, ValFault>
 fn time(z: i128) -> Result<Val, ValFault>
     ensures { result ≡ time_ranged z }
 {
-    if z.unsigned_abs() <= 1_000_000_000_000_000_000 {
+    if z.unsigned_abs() <= u128::from(MOST_TICKS) {
         Ok(Val::Time(z as i64))
     } else {
         Err(ValFault::Overflow)
@@ -95,11 +100,11 @@ pub fn subtract(a: Val, b: Val) -> Result<Val, ValFault>
 /// Ticks times a real, rounded to the nearest tick.
 #[tactic(auto, using(crate::proofs::Times::products))]
 fn scaled_time(t: i64, r: Fix) -> Result<Val, ValFault>
-    requires { unsigned_abs t ≤ 1000000000000000000 }
+    requires { unsigned_abs t ≤ most_ticks }
     ensures { result ≡ time_by_real t r }
 {
     match i128::from(t).checked_mul(r.units()) {
-        Some(product) if product.unsigned_abs() <= 2_000_000_000_000_000_000_000_000_000_000 => {
+        Some(product) if product.unsigned_abs() <= PRODUCT_END => {
             time(round_quotient(product, ONE))
         }
         _ => Err(ValFault::Overflow),
@@ -109,7 +114,7 @@ fn scaled_time(t: i64, r: Fix) -> Result<Val, ValFault>
 /// Ticks over a real, rounded to the nearest tick.
 #[tactic(auto, using(crate::proofs::Times::quotients))]
 fn divided_time(t: i64, r: Fix) -> Result<Val, ValFault>
-    requires { unsigned_abs t ≤ 1000000000000000000 }
+    requires { unsigned_abs t ≤ most_ticks }
     ensures { result ≡ time_over_real t r }
 {
     if r.units() == 0 {
@@ -133,8 +138,8 @@ fn whole_quotient(a: i64, b: i64) -> Result<Val, ValFault>
 /// What is left beside a multiple of `b`, with the sign of `b`.
 #[tactic(auto, using(crate::proofs::Times::integers))]
 fn whole_modulus(a: i64, b: i64) -> Result<Val, ValFault>
-    requires left { unsigned_abs a ≤ 2147483647 }
-    requires right { unsigned_abs b ≤ 2147483647 }
+    requires left { unsigned_abs a ≤ most_integer }
+    requires right { unsigned_abs b ≤ most_integer }
     ensures { result ≡ integer_modulus a b }
 {
     if b == 0 {
@@ -173,7 +178,7 @@ fn parted_time(t: i64, i: i64) -> Result<Val, ValFault>
 
 /// A time an integer number of times.
 fn repeated_time(t: i64, i: i32) -> Result<Val, ValFault>
-    requires time { unsigned_abs t ≤ 1000000000000000000 }
+    requires time { unsigned_abs t ≤ most_ticks }
     requires factor { unsigned_abs i ≤ 2147483648 }
     ensures { result ≡ time_ranged (t *ℤ i) }
 {

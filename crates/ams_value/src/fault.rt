@@ -14,14 +14,14 @@ pub enum ValFault {
 }
 
 impl ValFault {
-    /// The code of the fault: 30, 31 or 32.
+    /// The number of the fault's message.
     pub fn code(self) -> u8
         ensures { result ≡ code_of self }
     {
         match self {
-            ValFault::Range => 30,
-            ValFault::Overflow => 31,
-            ValFault::DivideByZero => 32,
+            ValFault::Range => message_codes::RANGE,
+            ValFault::Overflow => message_codes::VALUE_OVERFLOW,
+            ValFault::DivideByZero => message_codes::VALUE_DIVIDE_BY_ZERO,
         }
     }
 }

@@ -4,20 +4,20 @@ ghost use Rattle.ams_value.specs.Types.{Fit, logical_type};
 ghost use Rattle.ams_value.specs.Values.{all_ones, truth_of, bits_of, logical_of, decided_by, decided_truth};
 
 use crate::fault::ValFault;
-use crate::op::Op2;
+use crate::op::BinaryOperator;
 use crate::val::Val;
 
 /// A logical operator on two truth values.
-fn truth(op: Op2, a: bool, b: bool) -> bool
+fn truth(op: BinaryOperator, a: bool, b: bool) -> bool
     ensures { result ≡ truth_of op a b }
 {
     match op {
-        Op2::And => a && b,
-        Op2::Or => a || b,
-        Op2::Nand => !(a && b),
-        Op2::Nor => !(a || b),
-        Op2::Xor => a != b,
-        Op2::Xnor => a == b,
+        BinaryOperator::And => a && b,
+        BinaryOperator::Or => a || b,
+        BinaryOperator::Nand => !(a && b),
+        BinaryOperator::Nor => !(a || b),
+        BinaryOperator::Xor => a != b,
+        BinaryOperator::Xnor => a == b,
         _ => false,
     }
 }
@@ -33,26 +33,26 @@ pub fn ones(n: u8) -> u64
 
 /// A logical operator on the elements of two vectors of one length.
 #[tactic(auto, using(crate::proofs::Vectors::logical))]
-fn bits(op: Op2, n: u8, a: u64, b: u64) -> u64
+fn bits(op: BinaryOperator, n: u8, a: u64, b: u64) -> u64
     requires length { n ≤ 64 }
     requires left { a < 2 ^ n }
     requires right { b < 2 ^ n }
     ensures { result ≡ bits_of op n a b }
 {
     match op {
-        Op2::And => a & b,
-        Op2::Or => a | b,
-        Op2::Nand => ones(n) - (a & b),
-        Op2::Nor => ones(n) - (a | b),
-        Op2::Xor => a ^ b,
-        Op2::Xnor => ones(n) - (a ^ b),
+        BinaryOperator::And => a & b,
+        BinaryOperator::Or => a | b,
+        BinaryOperator::Nand => ones(n) - (a & b),
+        BinaryOperator::Nor => ones(n) - (a | b),
+        BinaryOperator::Xor => a ^ b,
+        BinaryOperator::Xnor => ones(n) - (a ^ b),
         _ => 0,
     }
 }
 
 /// A logical operator on two values.
 #[tactic(auto, using(crate::proofs::Vectors::lengths), unfolding(crate::specs::Values::logical_of))]
-pub fn logical(op: Op2, a: Val, b: Val) -> Result<Val, ValFault>
+pub fn logical(op: BinaryOperator, a: Val, b: Val) -> Result<Val, ValFault>
     requires { Fit logical_type a b }
     ensures { result ≡ logical_of op a b }
 {
@@ -67,7 +67,7 @@ pub fn logical(op: Op2, a: Val, b: Val) -> Result<Val, ValFault>
 /// What a logical operator on truth values gives, where its left operand alone decides it. The right one is not
 /// evaluated then.
 #[tactic(auto, unfolding(crate::specs::Values::decided_by))]
-pub fn decided(op: Op2, left: Val) -> Option<Val>
+pub fn decided(op: BinaryOperator, left: Val) -> Option<Val>
     ensures { result ≡ decided_by op left }
 {
     match left {
@@ -77,12 +77,12 @@ pub fn decided(op: Op2, left: Val) -> Option<Val>
     }
 }
 
-fn decision(op: Op2, left: bool) -> Option<bool>
+fn decision(op: BinaryOperator, left: bool) -> Option<bool>
     ensures { result ≡ decided_truth op left }
 {
     match (op, left) {
-        (Op2::And, false) | (Op2::Nor, true) => Some(false),
-        (Op2::Or, true) | (Op2::Nand, false) => Some(true),
+        (BinaryOperator::And, false) | (BinaryOperator::Nor, true) => Some(false),
+        (BinaryOperator::Or, true) | (BinaryOperator::Nand, false) => Some(true),
         _ => None,
     }
 }

@@ -2,7 +2,7 @@
 
 /// An operator with one operand.
 #[derive(Clone, Copy, Debug, PartialEq, Eq)]
-pub enum Op1 {
+pub enum UnaryOperator {
     Plus,
     Minus,
     Abs,
@@ -11,7 +11,7 @@ pub enum Op1 {
 
 /// An operator with two operands.
 #[derive(Clone, Copy, Debug, PartialEq, Eq)]
-pub enum Op2 {
+pub enum BinaryOperator {
     And,
     Or,
     Nand,

@@ -1,12 +1,16 @@
 //! Powers.
 ghost use Rattle.std.specs.Prelude.{◌≡◌, ◌≤◌, unsigned_abs};
+ghost use Rattle.ams_value.specs.Ranges.{most_integer};
 ghost use Rattle.ams_value.specs.Types.{Fit, power_type};
 ghost use Rattle.ams_value.specs.Values.{integer_product, integer_powers, integer_result, real_powers, real_result, power_value};
 
 use crate::arithmetic::real;
 use crate::fault::ValFault;
-use crate::val::Val;
-use fix_core::{Fix, NumFault};
+use crate::val::{MOST_INTEGER, Val};
+use fix_core::{Fix, NumFault, UNITS_PER_ONE};
+
+/// The greatest exponent.
+const MOST_EXPONENT: i32 = 64;
 
 /// The product of two integers, where it is one.
 #[tactic(auto, using(crate::proofs::Powers::products))]
@@ -14,7 +18,7 @@ fn product(a: i32, b: i32) -> Result<i32, ValFault>
     ensures { result ≡ integer_product a b }
 {
     match a.checked_mul(b) {
-        Some(product) if product.unsigned_abs() <= 2_147_483_647 => Ok(product),
+        Some(product) if product.unsigned_abs() <= MOST_INTEGER => Ok(product),
         _ => Err(ValFault::Overflow),
     }
 }
@@ -22,7 +26,7 @@ fn product(a: i32, b: i32) -> Result<i32, ValFault>
 /// An integer to the n-th power, by products from the left.
 #[tactic(auto, using(crate::proofs::Powers::integers))]
 fn integer_power(a: i32, n: u32) -> Result<i32, ValFault>
-    requires { unsigned_abs a ≤ 2147483647 }
+    requires { unsigned_abs a ≤ most_integer }
     ensures { result ≡ integer_powers a n }
 {
     if n == 0 {
@@ -44,7 +48,7 @@ pub fn real_power(a: Fix, n: u32) -> Result<Fix, NumFault>
     ensures { result ≡ real_powers a n }
 {
     if n == 0 {
-        return Ok(Fix::exactly(1_000_000_000_000));
+        return Ok(Fix::exactly(UNITS_PER_ONE as i128));
     }
     let mut power = a;
     for done in 1..n {
@@ -66,7 +70,7 @@ fn integer(number: Result<i32, ValFault>) -> Result<Val, ValFault>
     }
 }
 
-/// A number to the power of an exponent from 0 to 64.
+/// A number to the power of an exponent from 0 to `MOST_EXPONENT`.
 #[tactic(auto, using(crate::proofs::Powers::exponents))]
 pub fn power(a: Val, b: Val) -> Result<Val, ValFault>
     requires { Fit power_type a b }
@@ -74,7 +78,7 @@ pub fn power(a: Val, b: Val) -> Result<Val, ValFault>
 {
     match b {
         Val::Int(n) => {
-            if n < 0 || n > 64 {
+            if n < 0 || n > MOST_EXPONENT {
                 return Err(ValFault::Range);
             }
             match a {

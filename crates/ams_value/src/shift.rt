@@ -5,7 +5,7 @@ ghost use Rattle.ams_value.specs.Values.{left_shifted, right_shifted, last_fille
 
 use crate::fault::ValFault;
 use crate::logic::ones;
-use crate::op::Op2;
+use crate::op::BinaryOperator;
 use crate::val::Val;
 
 /// The last elements, so many.
@@ -79,7 +79,7 @@ fn rotate(n: u8, k: u32, a: u64) -> u64
 
 /// A shift by so many places, of the kind that the operator says.
 #[tactic(auto, using(crate::proofs::Vectors::shifts))]
-fn places(op: Op2, n: u8, k: u32, a: u64) -> u64
+fn places(op: BinaryOperator, n: u8, k: u32, a: u64) -> u64
     requires length { n ≤ 64 }
     requires content { a < 2 ^ n }
     ensures { result ≡ shifted op n k a }
@@ -89,34 +89,34 @@ fn places(op: Op2, n: u8, k: u32, a: u64) -> u64
     }
     let turn = k % u32::from(n);
     match op {
-        Op2::Sll => left(n, k, a),
-        Op2::Srl => right(k, a),
-        Op2::Sla => left(n, k, a) + last_fill(n, k, a),
-        Op2::Sra => right(k, a) + first_fill(n, k, a),
-        Op2::Rol => rotate(n, turn, a),
-        Op2::Ror => rotate(n, u32::from(n) - turn, a),
+        BinaryOperator::Sll => left(n, k, a),
+        BinaryOperator::Srl => right(k, a),
+        BinaryOperator::Sla => left(n, k, a) + last_fill(n, k, a),
+        BinaryOperator::Sra => right(k, a) + first_fill(n, k, a),
+        BinaryOperator::Rol => rotate(n, turn, a),
+        BinaryOperator::Ror => rotate(n, u32::from(n) - turn, a),
         _ => 0,
     }
 }
 
 /// The same shift the other way.
-fn reversed(op: Op2) -> Op2
+fn reversed(op: BinaryOperator) -> BinaryOperator
     ensures { result ≡ opposite op }
 {
     match op {
-        Op2::Sll => Op2::Srl,
-        Op2::Srl => Op2::Sll,
-        Op2::Sla => Op2::Sra,
-        Op2::Sra => Op2::Sla,
-        Op2::Rol => Op2::Ror,
-        Op2::Ror => Op2::Rol,
+        BinaryOperator::Sll => BinaryOperator::Srl,
+        BinaryOperator::Srl => BinaryOperator::Sll,
+        BinaryOperator::Sla => BinaryOperator::Sra,
+        BinaryOperator::Sra => BinaryOperator::Sla,
+        BinaryOperator::Rol => BinaryOperator::Ror,
+        BinaryOperator::Ror => BinaryOperator::Rol,
         _ => op,
     }
 }
 
 /// A shift of a vector by an integer, to the other side where it is negative.
 #[tactic(auto, using(crate::proofs::Vectors::ways), unfolding(crate::specs::Values::shift_of))]
-pub fn shift(op: Op2, a: Val, b: Val) -> Result<Val, ValFault>
+pub fn shift(op: BinaryOperator, a: Val, b: Val) -> Result<Val, ValFault>
     requires { Fit shift_type a b }
     ensures { result ≡ shift_of op a b }
 {

@@ -2,16 +2,17 @@
 ghost use Rattle.std.specs.Prelude.{◌≡◌};
 ghost use Rattle.ams_value.specs.Types.{number_type, truth_type, unary_type, logical_type, order_type, equality_type, shift_type, sum_type, vector_type, concat_type, product_type, quotient_type, remainder_type, power_type, binary_type};
 
-use crate::op::{Op1, Op2};
+use crate::op::{BinaryOperator, UnaryOperator};
+use crate::val::MOST_ELEMENTS;
 use crate::value_type::ValueType;
 
 /// The type of the result of an operator with one operand; none where it has no meaning for the type.
-pub fn unary_type(op: Op1, t: ValueType) -> Option<ValueType>
+pub fn unary_type(op: UnaryOperator, t: ValueType) -> Option<ValueType>
     ensures { result ≡ unary_type op t }
 {
     match op {
-        Op1::Plus | Op1::Minus | Op1::Abs => number(t),
-        Op1::Not => truth(t),
+        UnaryOperator::Plus | UnaryOperator::Minus | UnaryOperator::Abs => number(t),
+        UnaryOperator::Not => truth(t),
     }
 }
 
@@ -94,7 +95,7 @@ fn sum(s: ValueType, t: ValueType) -> Option<ValueType>
 fn vector(n: u16) -> Option<ValueType>
     ensures { result ≡ vector_type n }
 {
-    if n <= 64 {
+    if n <= u16::from(MOST_ELEMENTS) {
         Some(ValueType::BitVector(n as u8))
     } else {
         None
@@ -154,19 +155,32 @@ fn power(s: ValueType, t: ValueType) -> Option<ValueType>
 }
 
 /// The type of the result of an operator with two operands; none where it has no meaning for the types.
-pub fn binary_type(op: Op2, s: ValueType, t: ValueType) -> Option<ValueType>
+pub fn binary_type(op: BinaryOperator, s: ValueType, t: ValueType) -> Option<ValueType>
     ensures { result ≡ binary_type op s t }
 {
     match op {
-        Op2::And | Op2::Or | Op2::Nand | Op2::Nor | Op2::Xor | Op2::Xnor => logical(s, t),
-        Op2::Equal | Op2::NotEqual => equality(s, t),
-        Op2::Less | Op2::LessEqual | Op2::Greater | Op2::GreaterEqual => order(s, t),
-        Op2::Sll | Op2::Srl | Op2::Sla | Op2::Sra | Op2::Rol | Op2::Ror => shift(s, t),
-        Op2::Add | Op2::Subtract => sum(s, t),
-        Op2::Concat => concat(s, t),
-        Op2::Multiply => product(s, t),
-        Op2::Divide => quotient(s, t),
-        Op2::Mod | Op2::Rem => remainder(s, t),
-        Op2::Power => power(s, t),
+        BinaryOperator::And
+        | BinaryOperator::Or
+        | BinaryOperator::Nand
+        | BinaryOperator::Nor
+        | BinaryOperator::Xor
+        | BinaryOperator::Xnor => logical(s, t),
+        BinaryOperator::Equal | BinaryOperator::NotEqual => equality(s, t),
+        BinaryOperator::Less
+        | BinaryOperator::LessEqual
+        | BinaryOperator::Greater
+        | BinaryOperator::GreaterEqual => order(s, t),
+        BinaryOperator::Sll
+        | BinaryOperator::Srl
+        | BinaryOperator::Sla
+        | BinaryOperator::Sra
+        | BinaryOperator::Rol
+        | BinaryOperator::Ror => shift(s, t),
+        BinaryOperator::Add | BinaryOperator::Subtract => sum(s, t),
+        BinaryOperator::Concat => concat(s, t),
+        BinaryOperator::Multiply => product(s, t),
+        BinaryOperator::Divide => quotient(s, t),
+        BinaryOperator::Mod | BinaryOperator::Rem => remainder(s, t),
+        BinaryOperator::Power => power(s, t),
     }
 }

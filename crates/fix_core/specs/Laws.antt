@@ -9,6 +9,7 @@ use Rattle.std.specs.Prelude.{unsigned_abs}
 use Rattle.fix_core.specs.declared.NumFault.TheVariants.{Overflow, DivideByZero}
 use Rattle.fix_core.specs.Rounding.{nearest, rnd, signed, signs_differ, IsNearest}
 use Rattle.fix_core.specs.Passes.{and_then, each, joined}
+use Rattle.fix_core.specs.Units.{most_units}
 use Rattle.fix_core.specs.Fixed.{one, IsInRange, ranged, sum_of, difference_of, product_of, quotient_of}
 
 -- ---- rounding
@@ -118,18 +119,18 @@ rnd-le n d b h le =
 
 -- ---- ranges
 
-pub ranged-fits : (z : ℤ) → unsigned_abs z ≤ 1000000000000000000000000 → ranged z ≡ Ok z
+pub ranged-fits : (z : ℤ) → unsigned_abs z ≤ most_units → ranged z ≡ Ok z
 unfolding ranged
 ranged-fits z h = grind arith
 
-pub ranged-overflows : (z : ℤ) → 1000000000000000000000000 < unsigned_abs z → ranged z ≡ Err Overflow
+pub ranged-overflows : (z : ℤ) → most_units < unsigned_abs z → ranged z ≡ Err Overflow
 unfolding ranged
 ranged-overflows z h = grind arith
 
 -- what is answered is a number
 pub ranged_in_range : (z y : ℤ) → ranged z ≡ Ok y → IsInRange y
 ranged_in_range z y e =
-    elim (cases_lt 1000000000000000000000000 (unsigned_abs z)) [
+    elim (cases_lt most_units (unsigned_abs z)) [
       | inl past ↦ let f : ranged z ≡ Err Overflow = ranged-overflows z past in cc
       | inr fits ↦
           let f : ranged z ≡ Ok z = ranged-fits z fits in

@@ -6,6 +6,11 @@ abbrev pub and_then : {A B E : Type 0} → (A → Result B E) → Result A E →
 and_then f (Ok a) = f a
 and_then f (Err e) = Err e
 
+-- the same, for a chain of calls
+infixl 10 ◌>>=◌
+abbrev pub ◌>>=◌ : {A B E : Type 0} → Result A E → (A → Result B E) → Result B E
+m >>= f = and_then f m
+
 -- a pass over a list, in which any element may fail: all answers in order, or the first fault
 unfoldable pub each : {A B E : Type 0} → (A → Result B E) → List A → Result (List B) E
 each f [] = Ok []

@@ -12,7 +12,7 @@ pub fn call(name: &str, left: &str, right: &str) -> Option<Result<i128, u8>> {
     let a = left.parse::<i128>().ok()?;
     let number = match Fix::from_units(a) {
         Ok(number) => number,
-        Err(fault) => return Some(Err(fault as u8)),
+        Err(fault) => return Some(Err(fault.code())),
     };
     match name {
         "exp" => Some(units(exp(number))),
@@ -26,7 +26,7 @@ pub fn call(name: &str, left: &str, right: &str) -> Option<Result<i128, u8>> {
 fn operation(name: &str, left: Fix, right: i128) -> Option<Result<i128, u8>> {
     let right = match Fix::from_units(right) {
         Ok(number) => number,
-        Err(fault) => return Some(Err(fault as u8)),
+        Err(fault) => return Some(Err(fault.code())),
     };
     match name {
         "add" => Some(units(left.add(right))),
@@ -49,7 +49,7 @@ fn decimal(digits: u128, power: i32) -> Option<Result<Fix, NumFault>> {
 fn units(number: Result<Fix, NumFault>) -> Result<i128, u8> {
     match number {
         Ok(number) => Ok(number.units()),
-        Err(fault) => Err(fault as u8),
+        Err(fault) => Err(fault.code()),
     }
 }
 

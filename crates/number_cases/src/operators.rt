@@ -2,9 +2,12 @@
 
 use crate::value::value;
 use ams_value::{
-    Op1, Op2, Val, ValFault, ValueType, binary, binary_type, integer_from_real, real_from_integer,
-    unary, unary_type,
+    BinaryOperator, UnaryOperator, Val, ValFault, ValueType, binary, binary_type,
+    integer_from_real, real_from_integer, unary, unary_type,
 };
+
+/// How many literals each enumeration type of the table has.
+const LITERALS: [u32; 8] = [65_536; 8];
 
 /// What an operator gives; none where the words are no operator with operands of its types.
 pub fn apply(name: &str, left: &str, right: &str) -> Option<Result<Val, ValFault>> {
@@ -19,18 +22,18 @@ pub fn apply(name: &str, left: &str, right: &str) -> Option<Result<Val, ValFault
     apply_binary(op, a, value(right)?)
 }
 
-fn apply_unary(op: Op1, a: Val) -> Option<Result<Val, ValFault>> {
+fn apply_unary(op: UnaryOperator, a: Val) -> Option<Result<Val, ValFault>> {
     let known = unary_type(op, ValueType::of(a)).is_some();
-    if known && a.is_in_range() {
+    if known && a.is_in_range(&LITERALS) {
         Some(unary(op, a))
     } else {
         None
     }
 }
 
-fn apply_binary(op: Op2, a: Val, b: Val) -> Option<Result<Val, ValFault>> {
+fn apply_binary(op: BinaryOperator, a: Val, b: Val) -> Option<Result<Val, ValFault>> {
     let known = binary_type(op, ValueType::of(a), ValueType::of(b)).is_some();
-    if known && a.is_in_range() && b.is_in_range() {
+    if known && a.is_in_range(&LITERALS) && b.is_in_range(&LITERALS) {
         Some(binary(op, a, b))
     } else {
         None
@@ -49,62 +52,62 @@ fn convert(a: Val) -> Option<Result<Val, ValFault>> {
     }
 }
 
-fn unary_operator(name: &str) -> Option<Op1> {
+fn unary_operator(name: &str) -> Option<UnaryOperator> {
     match name {
-        "plus" => Some(Op1::Plus),
-        "minus" => Some(Op1::Minus),
-        "abs" => Some(Op1::Abs),
-        "not" => Some(Op1::Not),
+        "plus" => Some(UnaryOperator::Plus),
+        "minus" => Some(UnaryOperator::Minus),
+        "abs" => Some(UnaryOperator::Abs),
+        "not" => Some(UnaryOperator::Not),
         _ => None,
     }
 }
 
-fn binary_operator(name: &str) -> Option<Op2> {
+fn binary_operator(name: &str) -> Option<BinaryOperator> {
     logical_operator(name)
         .or(arithmetic_operator(name))
         .or(shift_operator(name))
 }
 
-fn logical_operator(name: &str) -> Option<Op2> {
+fn logical_operator(name: &str) -> Option<BinaryOperator> {
     match name {
-        "and" => Some(Op2::And),
-        "or" => Some(Op2::Or),
-        "nand" => Some(Op2::Nand),
-        "nor" => Some(Op2::Nor),
-        "xor" => Some(Op2::Xor),
-        "xnor" => Some(Op2::Xnor),
-        "=" => Some(Op2::Equal),
-        "/=" => Some(Op2::NotEqual),
-        "<" => Some(Op2::Less),
-        "<=" => Some(Op2::LessEqual),
-        ">" => Some(Op2::Greater),
-        ">=" => Some(Op2::GreaterEqual),
+        "and" => Some(BinaryOperator::And),
+        "or" => Some(BinaryOperator::Or),
+        "nand" => Some(BinaryOperator::Nand),
+        "nor" => Some(BinaryOperator::Nor),
+        "xor" => Some(BinaryOperator::Xor),
+        "xnor" => Some(BinaryOperator::Xnor),
+        "=" => Some(BinaryOperator::Equal),
+        "/=" => Some(BinaryOperator::NotEqual),
+        "<" => Some(BinaryOperator::Less),
+        "<=" => Some(BinaryOperator::LessEqual),
+        ">" => Some(BinaryOperator::Greater),
+        ">=" => Some(BinaryOperator::GreaterEqual),
         _ => None,
     }
 }
 
-fn shift_operator(name: &str) -> Option<Op2> {
+fn shift_operator(name: &str) -> Option<BinaryOperator> {
     match name {
-        "sll" => Some(Op2::Sll),
-        "srl" => Some(Op2::Srl),
-        "sla" => Some(Op2::Sla),
-        "sra" => Some(Op2::Sra),
-        "rol" => Some(Op2::Rol),
-        "ror" => Some(Op2::Ror),
-        "&" => Some(Op2::Concat),
+        "sll" => Some(BinaryOperator::Sll),
+        "srl" => Some(BinaryOperator::Srl),
+        "sla" => Some(BinaryOperator::Sla),
+        "sra" => Some(BinaryOperator::Sra),
+        "rol" => Some(BinaryOperator::Rol),
+        "ror" => Some(BinaryOperator::Ror),
+        "&" => Some(BinaryOperator::Concat),
         _ => None,
     }
 }
 
-fn arithmetic_operator(name: &str) -> Option<Op2> {
+fn arithmetic_operator(name: &str) -> Option<BinaryOperator> {
     match name {
-        "+" => Some(Op2::Add),
-        "-" => Some(Op2::Subtract),
-        "*" => Some(Op2::Multiply),
-        "/" => Some(Op2::Divide),
-        "mod" => Some(Op2::Mod),
-        "rem" => Some(Op2::Rem),
-        "**" => Some(Op2::Power),
+        "+" => Some(BinaryOperator::Add),
+        "-" => Some(BinaryOperator::Subtract),
+        "*" => Some(BinaryOperator::Multiply),
+        "/" => Some(BinaryOperator::Divide),
+        "mod" => Some(BinaryOperator::Mod),
+        "rem" => Some(BinaryOperator::Rem),
+        "**" => Some(BinaryOperator::Power),
         _ => None,
     }
 }
