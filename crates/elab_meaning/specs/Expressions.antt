@@ -10,10 +10,10 @@ use Rattle.ams_tree.specs.declared.expression.Attribute.{Attribute}
 use Rattle.ams_tree.specs.declared.expression.Expr.{Expr}
 use Rattle.ams_tree.specs.declared.expression.Attribute.TheOpen.{Expr-F, Attribute-F}
 use Rattle.ams_tree.specs.declared.expression.Attribute.TheFolds.{fold-Expr, fold-Attribute}
-use Rattle.ams_value.specs.declared.op.Op1.{Op1}
-use Rattle.ams_value.specs.declared.op.Op1.TheVariants as op1
-use Rattle.ams_value.specs.declared.op.Op2.{Op2}
-use Rattle.ams_value.specs.declared.op.Op2.TheVariants as op2
+use Rattle.ams_value.specs.declared.op.UnaryOperator.{UnaryOperator}
+use Rattle.ams_value.specs.declared.op.UnaryOperator.TheVariants as op1
+use Rattle.ams_value.specs.declared.op.BinaryOperator.{BinaryOperator}
+use Rattle.ams_value.specs.declared.op.BinaryOperator.TheVariants as op2
 use Rattle.flat_expr.specs.declared.expr.FlatExpr.TheVariants as e
 use Rattle.name_scope.specs.declared.thing.Kind.{Kind}
 use Rattle.name_scope.specs.declared.scope.Scope.{Scope}
@@ -33,13 +33,13 @@ use Rattle.elab_meaning.specs.Names.{named, missing, call_at, event_in, dot_at, 
 
 -- ---- operators
 
-abbrev pub prefix : Unary → Op1
+abbrev pub prefix : Unary → UnaryOperator
 prefix unary.Plus = op1.Plus
 prefix unary.Minus = op1.Minus
 prefix unary.Abs = op1.Abs
 prefix unary.Not = op1.Not
 
-abbrev pub infix_of : Binary → Op2
+abbrev pub infix_of : Binary → BinaryOperator
 infix_of binary.And = op2.And
 infix_of binary.Or = op2.Or
 infix_of binary.Xor = op2.Xor
@@ -67,21 +67,21 @@ infix_of binary.Mod = op2.Mod
 infix_of binary.Rem = op2.Rem
 infix_of binary.Power = op2.Power
 
-abbrev pub prefixed : Op1 → Place → Typed → Option Kind → Notes → Found
+abbrev pub prefixed : UnaryOperator → Place → Typed → Option Kind → Notes → Found
 prefixed op place a None n = wrong place n
 prefixed op place a (Some k) n = (n, Some (record { place = place; kind = k; expr = e.Unary op (value_type k) a.expr; value = unary_value op a.value }))
 
-abbrev pub unary_at : Op1 → Place → Option Typed → Notes → Found
+abbrev pub unary_at : UnaryOperator → Place → Option Typed → Notes → Found
 unary_at op place None n = (n, None)
 unary_at op place (Some a) n = prefixed op place a (unary_kind op a.kind) n
 
-abbrev pub joined : Op2 → Typed → Typed → Option Kind → Notes → Found
+abbrev pub joined : BinaryOperator → Typed → Typed → Option Kind → Notes → Found
 joined op a b None n = wrong a.place n
 joined op a b (Some k) n =
     (n, Some (record { place = a.place; kind = k; expr = e.Binary op (value_type k) a.expr b.expr; value = joined_value op a.kind b.kind a.value b.value }))
 
 -- where an operand breaks a rule, nothing is said of the whole
-abbrev pub binary_at : Op2 → Option Typed → Option Typed → Notes → Found
+abbrev pub binary_at : BinaryOperator → Option Typed → Option Typed → Notes → Found
 binary_at op None b n = (n, None)
 binary_at op (Some a) None n = (n, None)
 binary_at op (Some a) (Some b) n = joined op a b (binary_kind op a.kind b.kind) n

@@ -1,9 +1,9 @@
 -- The types of operators' results (IEEE 1076, 9.2), and of values (5.2, 5.3), as far as they are known.
 use Rattle.std.specs.Prelude.{nat_eq, Bool, true, false, ◌&&◌, ◌||◌, if◌then◌else◌, Option, Some, None}
-use Rattle.ams_value.specs.declared.op.Op1.{Op1}
-use Rattle.ams_value.specs.declared.op.Op1.TheVariants as op1
-use Rattle.ams_value.specs.declared.op.Op2.{Op2}
-use Rattle.ams_value.specs.declared.op.Op2.TheVariants as op2
+use Rattle.ams_value.specs.declared.op.UnaryOperator.{UnaryOperator}
+use Rattle.ams_value.specs.declared.op.UnaryOperator.TheVariants as op1
+use Rattle.ams_value.specs.declared.op.BinaryOperator.{BinaryOperator}
+use Rattle.ams_value.specs.declared.op.BinaryOperator.TheVariants as op2
 use Rattle.ams_value.specs.declared.value_type.ValueType.{ValueType}
 use Rattle.ams_value.specs.declared.value_type.ValueType.TheVariants as t
 use Rattle.ams_value.specs.Types.{unary_type, binary_type}
@@ -39,7 +39,7 @@ abbrev pub as_kind : Option ValueType → Option Kind
 as_kind (Some k) = Some (Of k)
 as_kind None = None
 
-abbrev pub unary_kind : Op1 → Kind → Option Kind
+abbrev pub unary_kind : UnaryOperator → Kind → Option Kind
 unary_kind op (Of k) = as_kind (unary_type op k)
 unary_kind op1.Not Vector = Some Vector
 unary_kind op Vector = None
@@ -67,7 +67,7 @@ is_joined k = is_vector k
 abbrev pub open_concat : Kind → Kind → Option Kind
 open_concat s u = if is_joined s && is_joined u then Some Vector else None
 
-abbrev pub open_kind : Op2 → Kind → Kind → Option Kind
+abbrev pub open_kind : BinaryOperator → Kind → Kind → Option Kind
 open_kind op2.And s u = open_logical s u
 open_kind op2.Or s u = open_logical s u
 open_kind op2.Nand s u = open_logical s u
@@ -85,6 +85,6 @@ open_kind op2.Ror s u = open_shift s u
 open_kind op2.Concat s u = open_concat s u
 open_kind op s u = None
 
-abbrev pub binary_kind : Op2 → Kind → Kind → Option Kind
+abbrev pub binary_kind : BinaryOperator → Kind → Kind → Option Kind
 binary_kind op (Of s) (Of u) = as_kind (binary_type op s u)
 binary_kind op s u = open_kind op s u

@@ -3,6 +3,8 @@ use Rattle.std.specs.Prelude.{ℕ, ◌+◌, ◌*◌, ◌/◌, ◌^◌, nat_eq, n
 use Rattle.std.specs.List.{fold}
 use Rattle.std.specs.Str.{bytes_eq}
 use Rattle.fix_core.specs.Fixed.{decimal_of}
+use Rattle.fix_core.specs.Units.{most_ticks}
+use Rattle.ams_value.specs.Ranges.{most_integer, most_elements}
 use Rattle.fix_core.specs.declared.NumFault.{NumFault}
 use Rattle.ams_token.specs.declared.token.Place.{Place}
 use Rattle.ams_token.specs.declared.token.Integer.{Integer}
@@ -39,7 +41,7 @@ abbrev pub integer_value : Integer → ℕ
 integer_value x = x.digits * x.base ^ x.exponent
 
 abbrev pub integer_literal : Integer → Option Val
-integer_literal x = if nat_le (integer_value x) 2147483647 then Some (val.Int (pos (integer_value x))) else None
+integer_literal x = if nat_le (integer_value x) most_integer then Some (val.Int (pos (integer_value x))) else None
 
 abbrev pub rounded : Result ℤ NumFault → Option Val
 rounded (Ok r) = Some (val.Real r)
@@ -70,15 +72,12 @@ scale_of text =
 abbrev pub truncated : ℕ → ℤ → ℕ
 truncated m p = if int_lt p (pos 0) then m / 10 ^ unsigned_abs p else m * 10 ^ unsigned_abs p
 
-abbrev pub tick_limit : ℕ
-tick_limit = 1000000000000000000
-
 abbrev pub ticks_at : ℕ → ℤ → Option Val
-ticks_at m p = if nat_le (truncated m p) tick_limit then Some (val.Time (pos (truncated m p))) else None
+ticks_at m p = if nat_le (truncated m p) most_ticks then Some (val.Time (pos (truncated m p))) else None
 
 -- the exact product of what is written and the unit
 abbrev pub time_literal : NumberValue → Scale → Option Val
-time_literal (written.Int x) s = if nat_le (integer_value x) 2147483647 then ticks_at (integer_value x * s.factor) s.power else None
+time_literal (written.Int x) s = if nat_le (integer_value x) most_integer then ticks_at (integer_value x * s.factor) s.power else None
 time_literal (written.Real x) s = if nat_lt x.digits (10 ^ 32) then ticks_at (x.digits * s.factor) (x.power +ℤ s.power) else None
 
 -- behind a number a name that is no unit
@@ -113,9 +112,9 @@ abbrev pub bits_literal : ℕ → Option ℕ → Option Val
 bits_literal n (Some a) = Some (val.Bits n a)
 bits_literal n None = None
 
--- at most 64 characters '0' and '1'
+-- at most as many characters as a vector has elements, each '0' and '1'
 abbrev pub vector_literal : List ℕ → Option Val
-vector_literal text = if nat_le (length text) 64 then bits_literal (length text) (fold with_element (Some 0) text) else None
+vector_literal text = if nat_le (length text) most_elements then bits_literal (length text) (fold with_element (Some 0) text) else None
 
 abbrev pub content_literal : List (List ℕ) → LiteralValue → Option Val
 content_literal texts (content.Char c) = char_literal c

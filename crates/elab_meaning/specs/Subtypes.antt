@@ -1,5 +1,7 @@
 -- Subtypes (IEEE 1076, 6.3 and 5.3.2), and the values that declarations give.
-use Rattle.std.specs.Prelude.{ℕ, ◌+◌, ◌-◌, nat_le, ℤ, pos, negsuc, int_lt, Bool, true, false, ◌&&◌, ◌||◌, if◌then◌else◌, List, Option, Some, None}
+use Rattle.std.specs.Prelude.{ℕ, ◌+◌, ◌-◌, nat_lt, ℤ, pos, neg_ℤ, int_lt, Bool, true, false, ◌&&◌, ◌||◌, if◌then◌else◌, List, Option, Some, None}
+use Rattle.fix_core.specs.Units.{most_units, most_ticks}
+use Rattle.ams_value.specs.Ranges.{most_integer, most_elements}
 use Rattle.ams_token.specs.declared.token.Place.{Place}
 use Rattle.ams_tree.specs.declared.expression.Expr.{Expr}
 use Rattle.ams_tree.specs.declared.declaration.Bounds.{Bounds}
@@ -58,7 +60,7 @@ suits s a = same_kind s.kind a.kind && holds_known s.constraint a.value
 
 -- a bound of an index: an INTEGER from 0 to 63
 abbrev pub bound_value : Option Val → Part (Option ℕ)
-bound_value (Some (val.Int (pos i))) = where_true (nat_le i 63) (Some i)
+bound_value (Some (val.Int (pos i))) = where_true (nat_lt i most_elements) (Some i)
 bound_value (Some v) = Wrong
 bound_value None = Kept None
 
@@ -142,18 +144,18 @@ subtype texts scope i n =
 
 abbrev pub first_integer : SubtypeConstraint → ℤ
 first_integer (constraint.Range (range.Integer low high)) = low
-first_integer _ = negsuc 2147483646
+first_integer _ = neg_ℤ (pos most_integer)
 
 abbrev pub first_real : SubtypeConstraint → ℤ
 first_real (constraint.Range (range.Real low high)) = low
-first_real _ = negsuc 999999999999999999999999
+first_real _ = neg_ℤ (pos most_units)
 
 abbrev pub first_of_type : SubtypeConstraint → ValueType → Val
 first_of_type c t.Boolean = val.Bool false
 first_of_type c t.Bit = val.Bit false
 first_of_type c t.Integer = val.Int (first_integer c)
 first_of_type c t.Real = val.Real (first_real c)
-first_of_type c t.Time = val.Time (negsuc 999999999999999999)
+first_of_type c t.Time = val.Time (neg_ℤ (pos most_ticks))
 first_of_type c (t.Enumeration n) = val.Enum n 0
 first_of_type c (t.BitVector n) = val.Bits n 0
 

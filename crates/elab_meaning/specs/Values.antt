@@ -5,8 +5,8 @@ use Rattle.math_fix.specs.Functions.{exp_of, sin_of, cos_of, sqrt_of}
 use Rattle.ams_value.specs.declared.val.Val.{Val}
 use Rattle.ams_value.specs.declared.val.Val.TheVariants as val
 use Rattle.ams_value.specs.declared.fault.ValFault.{ValFault}
-use Rattle.ams_value.specs.declared.op.Op1.{Op1}
-use Rattle.ams_value.specs.declared.op.Op2.{Op2}
+use Rattle.ams_value.specs.declared.op.UnaryOperator.{UnaryOperator}
+use Rattle.ams_value.specs.declared.op.BinaryOperator.{BinaryOperator}
 use Rattle.ams_value.specs.Values.{unary_of, binary_of, decided_by, integer_of, real_of}
 use Rattle.flat_expr.specs.declared.expr.Function.{Function}
 use Rattle.flat_expr.specs.declared.expr.Function.TheVariants as function
@@ -32,7 +32,7 @@ abbrev pub whole : Result ℤ ValFault → StaticValue
 whole (Ok i) = Known (val.Int i)
 whole (Err e) = Faulty
 
-abbrev pub unary_value : Op1 → StaticValue → StaticValue
+abbrev pub unary_value : UnaryOperator → StaticValue → StaticValue
 unary_value op (Known a) = answered (unary_of op a)
 unary_value op x = x
 
@@ -46,19 +46,19 @@ together f Faulty b = Faulty
 together f (Known a) b = f a b
 
 -- the answer that the left operand decided, or the operator's
-abbrev pub unless_decided : Option Val → Op2 → Val → StaticValue → StaticValue
+abbrev pub unless_decided : Option Val → BinaryOperator → Val → StaticValue → StaticValue
 unless_decided (Some d) op a b = Known d
 unless_decided None op a (Known b) = answered (binary_of op a b)
 unless_decided None op a b = b
 
-abbrev pub binary_value : Op2 → StaticValue → StaticValue → StaticValue
+abbrev pub binary_value : BinaryOperator → StaticValue → StaticValue → StaticValue
 binary_value op = together (λ a. unless_decided (decided_by op a) op a)
 
 -- where the length of an operand isn't known, neither is the value
 abbrev pub open_value : StaticValue → StaticValue → StaticValue
 open_value = together (λ a b. Later)
 
-abbrev pub joined_value : Op2 → Kind → Kind → StaticValue → StaticValue → StaticValue
+abbrev pub joined_value : BinaryOperator → Kind → Kind → StaticValue → StaticValue → StaticValue
 joined_value op (Of s) (Of u) a b = binary_value op a b
 joined_value op s u a b = open_value a b
 

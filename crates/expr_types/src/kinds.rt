@@ -2,7 +2,7 @@
 ghost use Rattle.std.specs.Prelude.{◌≡◌};
 ghost use Rattle.elab_meaning.specs.Kinds as spec;
 
-use ams_value::{Op1, Op2, ValueType, binary_type, unary_type};
+use ams_value::{UnaryOperator, BinaryOperator, ValueType, binary_type, unary_type};
 use name_scope::Kind;
 
 fn same_type(s: ValueType, t: ValueType) -> bool
@@ -57,13 +57,13 @@ fn as_kind(kind: Option<ValueType>) -> Option<Kind>
 }
 
 /// The type of an operator's result before an operand; none where it has no meaning for the type.
-pub fn unary_kind(op: Op1, kind: Kind) -> Option<Kind>
+pub fn unary_kind(op: UnaryOperator, kind: Kind) -> Option<Kind>
     ensures { result ≡ spec.unary_kind op kind }
 {
     match kind {
         Kind::Of(kind) => as_kind(unary_type(op, kind)),
         Kind::Vector => match op {
-            Op1::Not => Some(Kind::Vector),
+            UnaryOperator::Not => Some(Kind::Vector),
             _ => None,
         },
     }
@@ -120,20 +120,20 @@ fn open_concat(s: Kind, t: Kind) -> Option<Kind>
     }
 }
 
-fn open_kind(op: Op2, s: Kind, t: Kind) -> Option<Kind>
+fn open_kind(op: BinaryOperator, s: Kind, t: Kind) -> Option<Kind>
     ensures { result ≡ spec.open_kind op s t }
 {
     match op {
-        Op2::And | Op2::Or | Op2::Nand | Op2::Nor | Op2::Xor | Op2::Xnor => open_logical(s, t),
-        Op2::Equal | Op2::NotEqual => open_equality(s, t),
-        Op2::Sll | Op2::Srl | Op2::Sla | Op2::Sra | Op2::Rol | Op2::Ror => open_shift(s, t),
-        Op2::Concat => open_concat(s, t),
+        BinaryOperator::And | BinaryOperator::Or | BinaryOperator::Nand | BinaryOperator::Nor | BinaryOperator::Xor | BinaryOperator::Xnor => open_logical(s, t),
+        BinaryOperator::Equal | BinaryOperator::NotEqual => open_equality(s, t),
+        BinaryOperator::Sll | BinaryOperator::Srl | BinaryOperator::Sla | BinaryOperator::Sra | BinaryOperator::Rol | BinaryOperator::Ror => open_shift(s, t),
+        BinaryOperator::Concat => open_concat(s, t),
         _ => None,
     }
 }
 
 /// The type of an operator's result between two operands; none where it has no meaning for the types.
-pub fn binary_kind(op: Op2, s: Kind, t: Kind) -> Option<Kind>
+pub fn binary_kind(op: BinaryOperator, s: Kind, t: Kind) -> Option<Kind>
     ensures { result ≡ spec.binary_kind op s t }
 {
     match (s, t) {

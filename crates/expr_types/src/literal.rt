@@ -3,6 +3,8 @@ ghost use Rattle.std.specs.Prelude.{◌≡◌, ◌<◌, ◌≤◌, ◌*◌, ◌/
 ghost use Rattle.std.specs.List.{fold};
 ghost use Rattle.flat_expr.specs.declared.expr.FlatExpr.TheVariants as e;
 ghost use Rattle.elab_meaning.specs.declared.typed.StaticValue.TheVariants as known;
+ghost use Rattle.fix_core.specs.Units.{most_ticks};
+ghost use Rattle.ams_value.specs.Ranges.{most_integer};
 ghost use Rattle.elab_meaning.specs.Literals as spec;
 ghost use Rattle.elab_meaning.specs.Notes as noted;
 ghost use Rattle.name_scope.specs.declared.thing.Kind.TheVariants.{Of};
@@ -92,7 +94,7 @@ fn lowered(m: u128, digits: u64) -> u128
 }
 
 fn integer_of(integer: Integer) -> Option<u128>
-    ensures { result ≡ limited 2147483647 (spec.integer_value integer) }
+    ensures { result ≡ limited most_integer (spec.integer_value integer) }
 {
     raised(
         integer.digits,
@@ -160,7 +162,7 @@ fn scale_of(text: &str) -> Option<Scale>
 
 /// So many times ten to a power, without what stands behind the point, where that is a time.
 fn truncated(m: u128, power: i64) -> Option<u128>
-    ensures { result ≡ limited spec.tick_limit (spec.truncated m power) }
+    ensures { result ≡ limited most_ticks (spec.truncated m power) }
 {
     if power < 0 {
         limited(1_000_000_000_000_000_000, lowered(m, power.unsigned_abs()))

@@ -12,60 +12,60 @@ use crate::note::wrong;
 use crate::value::{joined_value, unary_value};
 use ams_token::Place;
 use ams_tree::{Binary, Unary};
-use ams_value::{Op1, Op2, results_are_typed};
+use ams_value::{UnaryOperator, BinaryOperator, results_are_typed};
 use elab_meaning::{Notes, Typed};
 use flat_expr::FlatExpr;
 use name_scope::Kind;
 use std::alloc::{AllocError, Global};
 
-fn prefix(op: Unary) -> Op1
+fn prefix(op: Unary) -> UnaryOperator
     ensures { result ≡ spec.prefix op }
 {
     match op {
-        Unary::Plus => Op1::Plus,
-        Unary::Minus => Op1::Minus,
-        Unary::Abs => Op1::Abs,
-        Unary::Not => Op1::Not,
+        Unary::Plus => UnaryOperator::Plus,
+        Unary::Minus => UnaryOperator::Minus,
+        Unary::Abs => UnaryOperator::Abs,
+        Unary::Not => UnaryOperator::Not,
     }
 }
 
-fn infix_of(op: Binary) -> Op2
+fn infix_of(op: Binary) -> BinaryOperator
     ensures { result ≡ spec.infix_of op }
 {
     match op {
-        Binary::And => Op2::And,
-        Binary::Or => Op2::Or,
-        Binary::Xor => Op2::Xor,
-        Binary::Xnor => Op2::Xnor,
-        Binary::Nand => Op2::Nand,
-        Binary::Nor => Op2::Nor,
-        Binary::Equal => Op2::Equal,
-        Binary::NotEqual => Op2::NotEqual,
-        Binary::Less => Op2::Less,
-        Binary::LessEqual => Op2::LessEqual,
-        Binary::Greater => Op2::Greater,
-        Binary::GreaterEqual => Op2::GreaterEqual,
-        Binary::ShiftLeftLogical => Op2::Sll,
-        Binary::ShiftRightLogical => Op2::Srl,
-        Binary::ShiftLeftArithmetic => Op2::Sla,
-        Binary::ShiftRightArithmetic => Op2::Sra,
-        Binary::RotateLeft => Op2::Rol,
-        Binary::RotateRight => Op2::Ror,
-        Binary::Add => Op2::Add,
-        Binary::Subtract => Op2::Subtract,
-        Binary::Concat => Op2::Concat,
-        Binary::Multiply => Op2::Multiply,
-        Binary::Divide => Op2::Divide,
-        Binary::Mod => Op2::Mod,
-        Binary::Rem => Op2::Rem,
-        Binary::Power => Op2::Power,
+        Binary::And => BinaryOperator::And,
+        Binary::Or => BinaryOperator::Or,
+        Binary::Xor => BinaryOperator::Xor,
+        Binary::Xnor => BinaryOperator::Xnor,
+        Binary::Nand => BinaryOperator::Nand,
+        Binary::Nor => BinaryOperator::Nor,
+        Binary::Equal => BinaryOperator::Equal,
+        Binary::NotEqual => BinaryOperator::NotEqual,
+        Binary::Less => BinaryOperator::Less,
+        Binary::LessEqual => BinaryOperator::LessEqual,
+        Binary::Greater => BinaryOperator::Greater,
+        Binary::GreaterEqual => BinaryOperator::GreaterEqual,
+        Binary::ShiftLeftLogical => BinaryOperator::Sll,
+        Binary::ShiftRightLogical => BinaryOperator::Srl,
+        Binary::ShiftLeftArithmetic => BinaryOperator::Sla,
+        Binary::ShiftRightArithmetic => BinaryOperator::Sra,
+        Binary::RotateLeft => BinaryOperator::Rol,
+        Binary::RotateRight => BinaryOperator::Ror,
+        Binary::Add => BinaryOperator::Add,
+        Binary::Subtract => BinaryOperator::Subtract,
+        Binary::Concat => BinaryOperator::Concat,
+        Binary::Multiply => BinaryOperator::Multiply,
+        Binary::Divide => BinaryOperator::Divide,
+        Binary::Mod => BinaryOperator::Mod,
+        Binary::Rem => BinaryOperator::Rem,
+        Binary::Power => BinaryOperator::Power,
     }
 }
 
 #[tactic(auto, using(crate::proofs::Sound::may_unary, crate::proofs::Sound::unary_sound))]
 fn prefixed(
     alloc: Global,
-    op: Op1,
+    op: UnaryOperator,
     place: Place,
     operand: Typed,
     kind: ValueType,
@@ -109,7 +109,7 @@ pub fn unary_at(
 #[tactic(auto, using(crate::proofs::Sound::may_unary, crate::proofs::Sound::unary_sound))]
 fn prefixed(
     alloc: Global,
-    op: Op1,
+    op: UnaryOperator,
     place: Place,
     operand: Typed,
     kind: Kind,
@@ -154,7 +154,7 @@ pub fn unary_at(
 #[tactic(auto, using(crate::proofs::Sound::may_join, crate::proofs::Sound::joined_sound))]
 fn joined(
     alloc: Global,
-    op: Op2,
+    op: BinaryOperator,
     left: Typed,
     right: Typed,
     kind: Kind,

@@ -1,7 +1,7 @@
 //! What is known of a value before the run.
 ghost use Rattle.std.specs.Prelude.{◌≡◌, IfOk};
 ghost use Rattle.elab_meaning.specs.Values as spec;
-ghost use Rattle.ams_value.specs.declared.op.Op2.TheVariants as op2;
+ghost use Rattle.ams_value.specs.declared.op.BinaryOperator.TheVariants as op2;
 ghost use Rattle.ams_value.specs.Types.{IsTypedUnary, IsTypedBinary};
 ghost use Rattle.elab_meaning.specs.declared.typed.StaticValue.TheVariants as kind;
 ghost use Rattle.ams_value.specs.declared.val.Val.TheVariants as val;
@@ -11,7 +11,7 @@ ghost use Rattle.flat_expr.specs.Expr.{kind_of_call};
 ghost use Rattle.expr_types.specs.Known.{OnKnown, OnBothKnown, IsOf, MayJoin};
 
 use ams_value::{
-    Op1, Op2, Val, ValFault, binary, decided, integer_from_real, real_from_integer, unary,
+    UnaryOperator, BinaryOperator, Val, ValFault, binary, decided, integer_from_real, real_from_integer, unary,
 };
 use elab_meaning::StaticValue;
 use fix_core::{Fix, NumFault};
@@ -48,7 +48,7 @@ fn whole(answer: Result<i32, ValFault>) -> StaticValue
     }
 }
 
-pub fn unary_value(op: Op1, a: StaticValue) -> StaticValue
+pub fn unary_value(op: UnaryOperator, a: StaticValue) -> StaticValue
     requires { OnKnown (IsTypedUnary op) a }
     ensures { result ≡ spec.unary_value op a }
 {
@@ -58,7 +58,7 @@ pub fn unary_value(op: Op1, a: StaticValue) -> StaticValue
     }
 }
 
-fn unless_decided(decided: Option<Val>, op: Op2, a: &Val, b: StaticValue) -> StaticValue
+fn unless_decided(decided: Option<Val>, op: BinaryOperator, a: &Val, b: StaticValue) -> StaticValue
     requires { OnKnown (IsTypedBinary op a.now) b }
     ensures { result ≡ spec.unless_decided decided op a.now b }
 {
@@ -91,7 +91,7 @@ fn faulty(b: StaticValue) -> StaticValue
 }
 
 /// Behind an operand that is known.
-fn known(op: Op2, a: &Val, b: StaticValue) -> StaticValue
+fn known(op: BinaryOperator, a: &Val, b: StaticValue) -> StaticValue
     requires { OnKnown (IsTypedBinary op a.now) b }
     ensures { result ≡ spec.binary_value op (kind.Known a.now) b }
 {
@@ -102,7 +102,7 @@ fn known(op: Op2, a: &Val, b: StaticValue) -> StaticValue
     }
 }
 
-pub fn binary_value(op: Op2, a: StaticValue, b: StaticValue) -> StaticValue
+pub fn binary_value(op: BinaryOperator, a: StaticValue, b: StaticValue) -> StaticValue
     requires { OnBothKnown (IsTypedBinary op) a b }
     ensures { result ≡ spec.binary_value op a b }
 {
@@ -126,7 +126,7 @@ pub fn open_value(a: &StaticValue, b: &StaticValue) -> StaticValue
     }
 }
 
-pub fn joined_value(op: Op2, s: Kind, t: Kind, a: StaticValue, b: StaticValue) -> StaticValue
+pub fn joined_value(op: BinaryOperator, s: Kind, t: Kind, a: StaticValue, b: StaticValue) -> StaticValue
     requires { MayJoin op s t a b }
     ensures { result ≡ spec.joined_value op s t a b }
 {
