@@ -1,5 +1,3 @@
-pub mod Tables
+pub mod TableLaws
 pub mod Places
-pub mod ListedWords
-pub mod ListedMarks
-pub mod ListedUnits
+pub mod Listed

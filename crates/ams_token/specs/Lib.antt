@@ -1,4 +1,4 @@
-pub mod Words
+pub mod Tables
 pub mod Spelling
 pub mod Classes
 pub mod NameTable

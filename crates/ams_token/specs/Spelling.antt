@@ -1,159 +1,41 @@
--- The texts of reserved words, marks and units of time.
-use Rattle.std.specs.Prelude.{ℕ, List, codes}
+-- The texts of reserved words, marks and units of time: those at their numbers in their tables.
+use Rattle.std.specs.Prelude.{ℕ, zero, suc, List, [], ◌∷◌}
+use denote.Enum.Declared.{tag_of}
+use Rattle.ams_token.specs.declared.word.TheConstants.{RESERVED_WORDS}
+use Rattle.ams_token.specs.declared.mark.TheConstants.{MARKS}
+use Rattle.ams_token.specs.declared.time_unit.TheConstants.{TIME_UNITS}
 use Rattle.ams_token.specs.declared.word.Word.{Word}
-use Rattle.ams_token.specs.declared.word.Word.TheVariants as w
+use Rattle.ams_token.specs.contracts.word.Word as word_type
 use Rattle.ams_token.specs.declared.mark.Mark.{Mark}
-use Rattle.ams_token.specs.declared.mark.Mark.TheVariants as m
+use Rattle.ams_token.specs.contracts.mark.Mark as mark_type
 use Rattle.ams_token.specs.declared.time_unit.TimeUnit.{TimeUnit}
-use Rattle.ams_token.specs.declared.time_unit.TimeUnit.TheVariants as u
+use Rattle.ams_token.specs.contracts.time_unit.TimeUnit as unit_type
+
+-- the text at a number of a table
+abbrev pub text_at : {X : Type 0} → (X → List ℕ) → List X → ℕ → List ℕ
+text_at text [] n = []
+text_at text (x ∷ xs) zero = text x
+text_at text (x ∷ xs) (suc n) = text_at text xs n
+
+-- the first reserved word has number 0
+abbrev pub word_number : Word → ℕ
+word_number x = tag_of word_type.the_type x
 
 -- in lower case
 abbrev pub word_text : Word → List ℕ
-word_text w.Abs = codes "abs"
-word_text w.Access = codes "access"
-word_text w.Across = codes "across"
-word_text w.After = codes "after"
-word_text w.Alias = codes "alias"
-word_text w.All = codes "all"
-word_text w.And = codes "and"
-word_text w.Architecture = codes "architecture"
-word_text w.Array = codes "array"
-word_text w.Assert = codes "assert"
-word_text w.Attribute = codes "attribute"
-word_text w.Begin = codes "begin"
-word_text w.Block = codes "block"
-word_text w.Body = codes "body"
-word_text w.Break = codes "break"
-word_text w.Buffer = codes "buffer"
-word_text w.Bus = codes "bus"
-word_text w.Case = codes "case"
-word_text w.Component = codes "component"
-word_text w.Configuration = codes "configuration"
-word_text w.Constant = codes "constant"
-word_text w.Disconnect = codes "disconnect"
-word_text w.Downto = codes "downto"
-word_text w.Else = codes "else"
-word_text w.Elsif = codes "elsif"
-word_text w.End = codes "end"
-word_text w.Entity = codes "entity"
-word_text w.Exit = codes "exit"
-word_text w.File = codes "file"
-word_text w.For = codes "for"
-word_text w.Function = codes "function"
-word_text w.Generate = codes "generate"
-word_text w.Generic = codes "generic"
-word_text w.Group = codes "group"
-word_text w.Guarded = codes "guarded"
-word_text w.If = codes "if"
-word_text w.Impure = codes "impure"
-word_text w.In = codes "in"
-word_text w.Inertial = codes "inertial"
-word_text w.Inout = codes "inout"
-word_text w.Is = codes "is"
-word_text w.Label = codes "label"
-word_text w.Library = codes "library"
-word_text w.Limit = codes "limit"
-word_text w.Linkage = codes "linkage"
-word_text w.Literal = codes "literal"
-word_text w.Loop = codes "loop"
-word_text w.Map = codes "map"
-word_text w.Mod = codes "mod"
-word_text w.Nand = codes "nand"
-word_text w.Nature = codes "nature"
-word_text w.New = codes "new"
-word_text w.Next = codes "next"
-word_text w.Noise = codes "noise"
-word_text w.Nor = codes "nor"
-word_text w.Not = codes "not"
-word_text w.Null = codes "null"
-word_text w.Of = codes "of"
-word_text w.On = codes "on"
-word_text w.Open = codes "open"
-word_text w.Or = codes "or"
-word_text w.Others = codes "others"
-word_text w.Out = codes "out"
-word_text w.Package = codes "package"
-word_text w.Port = codes "port"
-word_text w.Postponed = codes "postponed"
-word_text w.Procedural = codes "procedural"
-word_text w.Procedure = codes "procedure"
-word_text w.Process = codes "process"
-word_text w.Protected = codes "protected"
-word_text w.Pure = codes "pure"
-word_text w.Quantity = codes "quantity"
-word_text w.Range = codes "range"
-word_text w.Record = codes "record"
-word_text w.Reference = codes "reference"
-word_text w.Register = codes "register"
-word_text w.Reject = codes "reject"
-word_text w.Rem = codes "rem"
-word_text w.Report = codes "report"
-word_text w.Return = codes "return"
-word_text w.Rol = codes "rol"
-word_text w.Ror = codes "ror"
-word_text w.Select = codes "select"
-word_text w.Severity = codes "severity"
-word_text w.Shared = codes "shared"
-word_text w.Signal = codes "signal"
-word_text w.Sla = codes "sla"
-word_text w.Sll = codes "sll"
-word_text w.Spectrum = codes "spectrum"
-word_text w.Sra = codes "sra"
-word_text w.Srl = codes "srl"
-word_text w.Subnature = codes "subnature"
-word_text w.Subtype = codes "subtype"
-word_text w.Terminal = codes "terminal"
-word_text w.Then = codes "then"
-word_text w.Through = codes "through"
-word_text w.To = codes "to"
-word_text w.Tolerance = codes "tolerance"
-word_text w.Transport = codes "transport"
-word_text w.Type = codes "type"
-word_text w.Unaffected = codes "unaffected"
-word_text w.Units = codes "units"
-word_text w.Until = codes "until"
-word_text w.Use = codes "use"
-word_text w.Variable = codes "variable"
-word_text w.Wait = codes "wait"
-word_text w.When = codes "when"
-word_text w.While = codes "while"
-word_text w.With = codes "with"
-word_text w.Xnor = codes "xnor"
-word_text w.Xor = codes "xor"
+word_text x = text_at (λ y. y.1.now) RESERVED_WORDS.now (word_number x)
+
+-- the first mark has number 0
+abbrev pub mark_number : Mark → ℕ
+mark_number x = tag_of mark_type.the_type x
 
 abbrev pub mark_text : Mark → List ℕ
-mark_text m.Ampersand = codes "&"
-mark_text m.Tick = codes "'"
-mark_text m.LeftParen = codes "("
-mark_text m.RightParen = codes ")"
-mark_text m.Star = codes "*"
-mark_text m.DoubleStar = codes "**"
-mark_text m.Plus = codes "+"
-mark_text m.Comma = codes ","
-mark_text m.Minus = codes "-"
-mark_text m.Point = codes "."
-mark_text m.Slash = codes "/"
-mark_text m.NotEqual = codes "/="
-mark_text m.Colon = codes ":"
-mark_text m.Assign = codes ":="
-mark_text m.Semicolon = codes ";"
-mark_text m.Less = codes "<"
-mark_text m.LessEqual = codes "<="
-mark_text m.Box = codes "<>"
-mark_text m.Equal = codes "="
-mark_text m.DoubleEqual = codes "=="
-mark_text m.Arrow = codes "=>"
-mark_text m.Greater = codes ">"
-mark_text m.GreaterEqual = codes ">="
-mark_text m.Bar = codes "|"
+mark_text x = text_at (λ y. y.1.now) MARKS.now (mark_number x)
+
+-- the first unit of time has number 0
+abbrev pub unit_number : TimeUnit → ℕ
+unit_number x = tag_of unit_type.the_type x
 
 -- in lower case
 abbrev pub unit_text : TimeUnit → List ℕ
-unit_text u.Fs = codes "fs"
-unit_text u.Hr = codes "hr"
-unit_text u.Min = codes "min"
-unit_text u.Ms = codes "ms"
-unit_text u.Ns = codes "ns"
-unit_text u.Ps = codes "ps"
-unit_text u.Sec = codes "sec"
-unit_text u.Us = codes "us"
+unit_text x = text_at (λ y. y.1.now) TIME_UNITS.now (unit_number x)

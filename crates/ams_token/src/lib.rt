@@ -3,19 +3,18 @@
 
 mod mark;
 mod names;
+mod tables;
 mod time_unit;
 mod token;
 mod tokens;
 mod word;
-mod words;
 
-pub use mark::{MARK_TEXTS, Mark};
-pub use names::Names;
+pub use mark::{MARKS, Mark};
+pub use names::{ABOVE_NUMBER, DOT_NUMBER, EVENT_NUMBER, Names, RAMP_NUMBER};
 pub use time_unit::{TIME_UNITS, TimeUnit};
 pub use token::{Decimal, Integer, Place, Token, TokenKind};
 pub use tokens::Tokens;
 pub use word::{RESERVED_WORDS, Word};
-pub use words::Words;
 
 #[cfg(test)]
 mod tests;

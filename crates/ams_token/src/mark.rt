@@ -1,7 +1,7 @@
 ghost use Rattle.std.specs.Prelude.{◌≡◌, ◌≢◌, MatchOption};
 ghost use Rattle.ams_token.specs.Spelling.{mark_text};
 
-use crate::words::Words;
+use crate::tables::find_text;
 
 /// The marks, in the order of their characters.
 #[derive(Clone, Copy, Debug, PartialEq, Eq)]
@@ -32,39 +32,32 @@ pub enum Mark {
     Bar,
 }
 
-/// The texts of the marks.
-pub const MARK_TEXTS: Words<24> = Words {
-    texts: &[
-        "&", "'", "(", ")", "*", "**", "+", ",", "-", ".", "/", "/=", ":", ":=", ";", "<", "<=",
-        "<>", "=", "==", "=>", ">", ">=", "|",
-    ],
-};
-
-const MARKS: [Mark; 24] = [
-    Mark::Ampersand,
-    Mark::Tick,
-    Mark::LeftParen,
-    Mark::RightParen,
-    Mark::Star,
-    Mark::DoubleStar,
-    Mark::Plus,
-    Mark::Comma,
-    Mark::Minus,
-    Mark::Point,
-    Mark::Slash,
-    Mark::NotEqual,
-    Mark::Colon,
-    Mark::Assign,
-    Mark::Semicolon,
-    Mark::Less,
-    Mark::LessEqual,
-    Mark::Box,
-    Mark::Equal,
-    Mark::DoubleEqual,
-    Mark::Arrow,
-    Mark::Greater,
-    Mark::GreaterEqual,
-    Mark::Bar,
+/// The marks with their texts. A mark stands at its own number.
+pub const MARKS: &[(Mark, &str)] = &[
+    (Mark::Ampersand, "&"),
+    (Mark::Tick, "'"),
+    (Mark::LeftParen, "("),
+    (Mark::RightParen, ")"),
+    (Mark::Star, "*"),
+    (Mark::DoubleStar, "**"),
+    (Mark::Plus, "+"),
+    (Mark::Comma, ","),
+    (Mark::Minus, "-"),
+    (Mark::Point, "."),
+    (Mark::Slash, "/"),
+    (Mark::NotEqual, "/="),
+    (Mark::Colon, ":"),
+    (Mark::Assign, ":="),
+    (Mark::Semicolon, ";"),
+    (Mark::Less, "<"),
+    (Mark::LessEqual, "<="),
+    (Mark::Box, "<>"),
+    (Mark::Equal, "="),
+    (Mark::DoubleEqual, "=="),
+    (Mark::Arrow, "=>"),
+    (Mark::Greater, ">"),
+    (Mark::GreaterEqual, ">="),
+    (Mark::Bar, "|"),
 ];
 
 impl Mark {
@@ -72,40 +65,12 @@ impl Mark {
     pub fn find(text: &str) -> Option<Mark>
         ensures { MatchOption result ((x : Mark) → mark_text x ≢ text.now) (λ x. mark_text x ≡ text.now) }
     {
-        match MARK_TEXTS.find(text) {
-            Some(at) => Some(MARKS[at as usize]),
-            None => None,
-        }
+        find_text(MARKS, text)
     }
 
     pub fn text(self) -> &'static str
         ensures { result.now ≡ mark_text self }
     {
-        match self {
-            Mark::Ampersand => "&",
-            Mark::Tick => "'",
-            Mark::LeftParen => "(",
-            Mark::RightParen => ")",
-            Mark::Star => "*",
-            Mark::DoubleStar => "**",
-            Mark::Plus => "+",
-            Mark::Comma => ",",
-            Mark::Minus => "-",
-            Mark::Point => ".",
-            Mark::Slash => "/",
-            Mark::NotEqual => "/=",
-            Mark::Colon => ":",
-            Mark::Assign => ":=",
-            Mark::Semicolon => ";",
-            Mark::Less => "<",
-            Mark::LessEqual => "<=",
-            Mark::Box => "<>",
-            Mark::Equal => "=",
-            Mark::DoubleEqual => "==",
-            Mark::Arrow => "=>",
-            Mark::Greater => ">",
-            Mark::GreaterEqual => ">=",
-            Mark::Bar => "|",
-        }
+        MARKS[self as usize].1
     }
 }

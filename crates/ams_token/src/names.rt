@@ -6,6 +6,15 @@ use indexmap::IndexSet;
 use std::alloc::{AllocError, Global};
 use std::marker::Model;
 
+/// The numbers of the names that the grammar knows.
+pub const EVENT_NUMBER: u32 = 0;
+
+pub const DOT_NUMBER: u32 = 1;
+
+pub const ABOVE_NUMBER: u32 = 2;
+
+pub const RAMP_NUMBER: u32 = 3;
+
 /// The texts of a program, each of them once, with their numbers in the order in which they were first met.
 #[derive(Drop)]
 pub struct Names {

@@ -1,8 +1,15 @@
 ghost use Rattle.std.specs.Prelude.{◌≡◌, nat_eq};
-ghost use Rattle.ams_token.specs.Classes.{word_class, mark_class, kind_class};
+ghost use Rattle.ams_token.specs.Classes.{kind_class};
 
 use crate::mark::Mark;
+use crate::names::{ABOVE_NUMBER, DOT_NUMBER, EVENT_NUMBER, RAMP_NUMBER};
 use crate::word::Word;
+
+/// The number of the kind of the first reserved word. Those of the others follow.
+const FIRST_WORD_CLASS: u8 = 10;
+
+/// The number of the kind of the first mark. Those of the others follow.
+const FIRST_MARK_CLASS: u8 = 130;
 
 /// Where a token stands in the text: line and column, both from 1. A column is one byte.
 #[derive(Clone, Copy, Debug, PartialEq, Eq)]
@@ -52,16 +59,16 @@ pub struct Token {
 
 impl TokenKind {
     /// The name `event`.
-    pub const EVENT: TokenKind = TokenKind::Name(0);
+    pub const EVENT: TokenKind = TokenKind::Name(EVENT_NUMBER);
 
     /// The name `dot`.
-    pub const DOT: TokenKind = TokenKind::Name(1);
+    pub const DOT: TokenKind = TokenKind::Name(DOT_NUMBER);
 
     /// The name `above`.
-    pub const ABOVE: TokenKind = TokenKind::Name(2);
+    pub const ABOVE: TokenKind = TokenKind::Name(ABOVE_NUMBER);
 
     /// The name `ramp`.
-    pub const RAMP: TokenKind = TokenKind::Name(3);
+    pub const RAMP: TokenKind = TokenKind::Name(RAMP_NUMBER);
 
     /// Whether both are tokens of one kind: the same word or mark, literals of one sort, the same of the four known names,
     /// or both another name.
@@ -86,156 +93,7 @@ fn kind_class(kind: TokenKind) -> u8
         TokenKind::Char(_) => 7,
         TokenKind::Str(_) => 8,
         TokenKind::Bits(_) => 9,
-        TokenKind::Word(word) => word_class(word),
-        TokenKind::Mark(mark) => mark_class(mark),
-    }
-}
-
-fn word_class(word: Word) -> u8
-    ensures { result ≡ word_class word }
-{
-    match word {
-        Word::Abs => 10,
-        Word::Access => 11,
-        Word::Across => 12,
-        Word::After => 13,
-        Word::Alias => 14,
-        Word::All => 15,
-        Word::And => 16,
-        Word::Architecture => 17,
-        Word::Array => 18,
-        Word::Assert => 19,
-        Word::Attribute => 20,
-        Word::Begin => 21,
-        Word::Block => 22,
-        Word::Body => 23,
-        Word::Break => 24,
-        Word::Buffer => 25,
-        Word::Bus => 26,
-        Word::Case => 27,
-        Word::Component => 28,
-        Word::Configuration => 29,
-        Word::Constant => 30,
-        Word::Disconnect => 31,
-        Word::Downto => 32,
-        Word::Else => 33,
-        Word::Elsif => 34,
-        Word::End => 35,
-        Word::Entity => 36,
-        Word::Exit => 37,
-        Word::File => 38,
-        Word::For => 39,
-        Word::Function => 40,
-        Word::Generate => 41,
-        Word::Generic => 42,
-        Word::Group => 43,
-        Word::Guarded => 44,
-        Word::If => 45,
-        Word::Impure => 46,
-        Word::In => 47,
-        Word::Inertial => 48,
-        Word::Inout => 49,
-        Word::Is => 50,
-        Word::Label => 51,
-        Word::Library => 52,
-        Word::Limit => 53,
-        Word::Linkage => 54,
-        Word::Literal => 55,
-        Word::Loop => 56,
-        Word::Map => 57,
-        Word::Mod => 58,
-        Word::Nand => 59,
-        Word::Nature => 60,
-        Word::New => 61,
-        Word::Next => 62,
-        Word::Noise => 63,
-        Word::Nor => 64,
-        Word::Not => 65,
-        Word::Null => 66,
-        Word::Of => 67,
-        Word::On => 68,
-        Word::Open => 69,
-        Word::Or => 70,
-        Word::Others => 71,
-        Word::Out => 72,
-        Word::Package => 73,
-        Word::Port => 74,
-        Word::Postponed => 75,
-        Word::Procedural => 76,
-        Word::Procedure => 77,
-        Word::Process => 78,
-        Word::Protected => 79,
-        Word::Pure => 80,
-        Word::Quantity => 81,
-        Word::Range => 82,
-        Word::Record => 83,
-        Word::Reference => 84,
-        Word::Register => 85,
-        Word::Reject => 86,
-        Word::Rem => 87,
-        Word::Report => 88,
-        Word::Return => 89,
-        Word::Rol => 90,
-        Word::Ror => 91,
-        Word::Select => 92,
-        Word::Severity => 93,
-        Word::Shared => 94,
-        Word::Signal => 95,
-        Word::Sla => 96,
-        Word::Sll => 97,
-        Word::Spectrum => 98,
-        Word::Sra => 99,
-        Word::Srl => 100,
-        Word::Subnature => 101,
-        Word::Subtype => 102,
-        Word::Terminal => 103,
-        Word::Then => 104,
-        Word::Through => 105,
-        Word::To => 106,
-        Word::Tolerance => 107,
-        Word::Transport => 108,
-        Word::Type => 109,
-        Word::Unaffected => 110,
-        Word::Units => 111,
-        Word::Until => 112,
-        Word::Use => 113,
-        Word::Variable => 114,
-        Word::Wait => 115,
-        Word::When => 116,
-        Word::While => 117,
-        Word::With => 118,
-        Word::Xnor => 119,
-        Word::Xor => 120,
-    }
-}
-
-fn mark_class(mark: Mark) -> u8
-    ensures { result ≡ mark_class mark }
-{
-    match mark {
-        Mark::Ampersand => 130,
-        Mark::Tick => 131,
-        Mark::LeftParen => 132,
-        Mark::RightParen => 133,
-        Mark::Star => 134,
-        Mark::DoubleStar => 135,
-        Mark::Plus => 136,
-        Mark::Comma => 137,
-        Mark::Minus => 138,
-        Mark::Point => 139,
-        Mark::Slash => 140,
-        Mark::NotEqual => 141,
-        Mark::Colon => 142,
-        Mark::Assign => 143,
-        Mark::Semicolon => 144,
-        Mark::Less => 145,
-        Mark::LessEqual => 146,
-        Mark::Box => 147,
-        Mark::Equal => 148,
-        Mark::DoubleEqual => 149,
-        Mark::Arrow => 150,
-        Mark::Greater => 151,
-        Mark::GreaterEqual => 152,
-        Mark::Bar => 153,
+        TokenKind::Word(word) => FIRST_WORD_CLASS + word as u8,
+        TokenKind::Mark(mark) => FIRST_MARK_CLASS + mark as u8,
     }
 }

@@ -5,8 +5,8 @@ use Rattle.ams_token.specs.declared.token.Token.{Token}
 use Rattle.ams_token.specs.declared.word.Word.TheVariants as w
 use Rattle.ams_token.specs.declared.mark.Mark.TheVariants as m
 use Rattle.ams_tree.specs.declared.expression.Name.{Name}
-use Rattle.ams_tree.specs.declared.expression.Binary.{Binary}
-use Rattle.ams_tree.specs.declared.expression.Binary.TheVariants as binary
+use Rattle.ams_tree.specs.declared.expression.BinaryOperator.{BinaryOperator}
+use Rattle.ams_tree.specs.declared.expression.BinaryOperator.TheVariants as binary
 use Rattle.ams_tree.specs.declared.expression.Attribute.{Attribute}
 use Rattle.ams_tree.specs.declared.expression.Attribute.TheVariants as attr
 use Rattle.ams_tree.specs.declared.expression.Expr.{Expr}
@@ -19,7 +19,7 @@ use Rattle.ams_tree.specs.Terminals.{mark, word, event, dot, above, ramp, name_o
 abbrev pub last : {X : Type 0} → List X → X → List X
 last xs x = xs ++ x ∷ []
 
-abbrev pub linked : Expr → Binary × Expr → Expr
+abbrev pub linked : Expr → BinaryOperator × Expr → Expr
 linked left link = e.Binary link.0 left link.1
 
 -- ---- the rules, with the expression that may stand in parentheses, and whether there may be any
@@ -117,14 +117,14 @@ module _ (allowed : Bool) (inner : Rule Expr) where
     (counted relating >>= (λ op. shift >>= (λ x. pure (e.Binary op left x)))) <|> pure left
 
   -- once more behind the operator: op rel
-  unfoldable pub once : (Token → Option Place) → Binary → Expr → Rule Expr
+  unfoldable pub once : (Token → Option Place) → BinaryOperator → Expr → Rule Expr
   once f op left = do
     counted f
     x ← rel
     pure (e.Binary op left x)
 
   -- op rel { op rel }
-  unfoldable pub chain : (Token → Option Place) → Binary → Expr → Rule Expr
+  unfoldable pub chain : (Token → Option Place) → BinaryOperator → Expr → Rule Expr
   chain f op left = do
     first ← once f op left
     repeated (λ l x. e.Binary op l x) (counted f >> rel) first

@@ -6,8 +6,8 @@ use Rattle.ams_token.specs.declared.word.Word.TheVariants as w
 use Rattle.ams_token.specs.declared.mark.Mark.TheVariants as m
 use Rattle.ams_tree.specs.declared.expression.Name.{Name}
 use Rattle.ams_tree.specs.declared.expression.Expr.{Expr}
-use Rattle.ams_tree.specs.declared.sequential.Delay.{Delay}
-use Rattle.ams_tree.specs.declared.sequential.Delay.TheVariants as delay
+use Rattle.ams_tree.specs.declared.sequential.DelayMechanism.{DelayMechanism}
+use Rattle.ams_tree.specs.declared.sequential.DelayMechanism.TheVariants as delay
 use Rattle.ams_tree.specs.declared.sequential.WaveformElement.{WaveformElement}
 use Rattle.ams_tree.specs.declared.sequential.Assertion.{Assertion}
 use Rattle.ams_tree.specs.declared.sequential.BreakElement.{BreakElement}
@@ -37,7 +37,7 @@ module _ (limit depth : ℕ) where
     repeated last (one (mark m.Comma) >> listed_name limit depth) (first ∷ [])
 
   -- "transport" | [ "reject" expr ] "inertial"
-  unfoldable pub delay_mechanism : Rule Delay
+  unfoldable pub delay_mechanism : Rule DelayMechanism
   delay_mechanism = (one (word w.Transport) >>= (λ place. pure (delay.Transport place)))
       <|> ((do
         place ← one (word w.Reject)

@@ -8,16 +8,17 @@ use Rattle.ams_token.specs.declared.word.Word.{Word}
 use Rattle.ams_token.specs.declared.word.Word.TheVariants as w
 use Rattle.ams_token.specs.declared.mark.Mark.{Mark}
 use Rattle.ams_token.specs.declared.mark.Mark.TheVariants as m
-use Rattle.ams_token.specs.Classes.{class, word_class, mark_class}
+use Rattle.ams_token.specs.declared.names.TheConstants.{EVENT_NUMBER, DOT_NUMBER, ABOVE_NUMBER, RAMP_NUMBER}
+use Rattle.ams_token.specs.Classes.{class, name_class, word_class, mark_class}
 use Rattle.ams_tree.specs.declared.expression.Name.{Name}
 use Rattle.ams_tree.specs.declared.expression.Number.{Number}
 use Rattle.ams_tree.specs.declared.expression.NumberValue.TheVariants as value
 use Rattle.ams_tree.specs.declared.expression.Literal.{Literal}
 use Rattle.ams_tree.specs.declared.expression.LiteralValue.TheVariants as content
-use Rattle.ams_tree.specs.declared.expression.Binary.{Binary}
-use Rattle.ams_tree.specs.declared.expression.Binary.TheVariants as binary
-use Rattle.ams_tree.specs.declared.expression.Unary.{Unary}
-use Rattle.ams_tree.specs.declared.expression.Unary.TheVariants as unary
+use Rattle.ams_tree.specs.declared.expression.BinaryOperator.{BinaryOperator}
+use Rattle.ams_tree.specs.declared.expression.BinaryOperator.TheVariants as binary
+use Rattle.ams_tree.specs.declared.expression.UnaryOperator.{UnaryOperator}
+use Rattle.ams_tree.specs.declared.expression.UnaryOperator.TheVariants as unary
 use Rattle.ams_tree.specs.declared.declaration.Direction.{Direction}
 use Rattle.ams_tree.specs.declared.declaration.Direction.TheVariants as direction
 use Rattle.ams_tree.specs.declared.declaration.Mode.{Mode}
@@ -35,16 +36,16 @@ word x = of_class (word_class x)
 
 -- the attributes that are no reserved words
 abbrev pub event : Token → Option Place
-event = of_class 0
+event = of_class (name_class EVENT_NUMBER)
 
 abbrev pub dot : Token → Option Place
-dot = of_class 1
+dot = of_class (name_class DOT_NUMBER)
 
 abbrev pub above : Token → Option Place
-above = of_class 2
+above = of_class (name_class ABOVE_NUMBER)
 
 abbrev pub ramp : Token → Option Place
-ramp = of_class 3
+ramp = of_class (name_class RAMP_NUMBER)
 
 abbrev pub name_in : TokenKind → Place → Option Name
 name_in (kind.Name n) p = Some (record { number = n; place = p })
@@ -80,26 +81,26 @@ string_in _ p = None
 unfoldable pub string_of : Token → Option Literal
 string_of t = string_in t.kind t.place
 
-abbrev pub multiplying_in : TokenKind → Option Binary
+abbrev pub multiplying_in : TokenKind → Option BinaryOperator
 multiplying_in (kind.Mark m.Star) = Some binary.Multiply
 multiplying_in (kind.Mark m.Slash) = Some binary.Divide
 multiplying_in (kind.Word w.Mod) = Some binary.Mod
 multiplying_in (kind.Word w.Rem) = Some binary.Rem
 multiplying_in _ = None
 
-unfoldable pub multiplying : Token → Option Binary
+unfoldable pub multiplying : Token → Option BinaryOperator
 multiplying t = multiplying_in t.kind
 
-abbrev pub adding_in : TokenKind → Option Binary
+abbrev pub adding_in : TokenKind → Option BinaryOperator
 adding_in (kind.Mark m.Plus) = Some binary.Add
 adding_in (kind.Mark m.Minus) = Some binary.Subtract
 adding_in (kind.Mark m.Ampersand) = Some binary.Concat
 adding_in _ = None
 
-unfoldable pub adding : Token → Option Binary
+unfoldable pub adding : Token → Option BinaryOperator
 adding t = adding_in t.kind
 
-abbrev pub shifting_in : TokenKind → Option Binary
+abbrev pub shifting_in : TokenKind → Option BinaryOperator
 shifting_in (kind.Word w.Sll) = Some binary.ShiftLeftLogical
 shifting_in (kind.Word w.Srl) = Some binary.ShiftRightLogical
 shifting_in (kind.Word w.Sla) = Some binary.ShiftLeftArithmetic
@@ -108,10 +109,10 @@ shifting_in (kind.Word w.Rol) = Some binary.RotateLeft
 shifting_in (kind.Word w.Ror) = Some binary.RotateRight
 shifting_in _ = None
 
-unfoldable pub shifting : Token → Option Binary
+unfoldable pub shifting : Token → Option BinaryOperator
 shifting t = shifting_in t.kind
 
-abbrev pub relating_in : TokenKind → Option Binary
+abbrev pub relating_in : TokenKind → Option BinaryOperator
 relating_in (kind.Mark m.Equal) = Some binary.Equal
 relating_in (kind.Mark m.NotEqual) = Some binary.NotEqual
 relating_in (kind.Mark m.Less) = Some binary.Less
@@ -120,23 +121,23 @@ relating_in (kind.Mark m.Greater) = Some binary.Greater
 relating_in (kind.Mark m.GreaterEqual) = Some binary.GreaterEqual
 relating_in _ = None
 
-unfoldable pub relating : Token → Option Binary
+unfoldable pub relating : Token → Option BinaryOperator
 relating t = relating_in t.kind
 
-abbrev pub sign_in : TokenKind → Place → Option (Unary × Place)
+abbrev pub sign_in : TokenKind → Place → Option (UnaryOperator × Place)
 sign_in (kind.Mark m.Plus) p = Some (unary.Plus, p)
 sign_in (kind.Mark m.Minus) p = Some (unary.Minus, p)
 sign_in _ p = None
 
-unfoldable pub sign : Token → Option (Unary × Place)
+unfoldable pub sign : Token → Option (UnaryOperator × Place)
 sign t = sign_in t.kind t.place
 
-abbrev pub prefix_in : TokenKind → Place → Option (Unary × Place)
+abbrev pub prefix_in : TokenKind → Place → Option (UnaryOperator × Place)
 prefix_in (kind.Word w.Abs) p = Some (unary.Abs, p)
 prefix_in (kind.Word w.Not) p = Some (unary.Not, p)
 prefix_in _ p = None
 
-unfoldable pub prefix : Token → Option (Unary × Place)
+unfoldable pub prefix : Token → Option (UnaryOperator × Place)
 prefix t = prefix_in t.kind t.place
 
 abbrev pub direction_in : TokenKind → Option Direction

@@ -1,6 +1,6 @@
 use crate::declaration::ProcessDeclaration;
 use crate::expression::{Expr, Name};
-use crate::sequential::{Assertion, BreakElement, Choice, Delay, Seq, WaveformElement};
+use crate::sequential::{Assertion, BreakElement, Choice, DelayMechanism, Seq, WaveformElement};
 use ams_token::Place;
 use sqlite_items::Items;
 
@@ -67,7 +67,13 @@ pub struct SimultaneousAlternative {
 pub enum ConcurrentStatement {
     Process(Process),
     /// A signal, its delay, the waveforms before an `else`, the last waveform, and its condition.
-    Assign(Name, Option<Delay>, Items<ConditionalWaveform>, Items<WaveformElement>, Option<Expr>),
+    Assign(
+        Name,
+        Option<DelayMechanism>,
+        Items<ConditionalWaveform>,
+        Items<WaveformElement>,
+        Option<Expr>,
+    ),
     Assert(Assertion),
     /// The elements, the names behind `on`, and the condition behind `when`.
     Break(Place, Items<BreakElement>, Items<Expr>, Option<Expr>),

@@ -38,7 +38,7 @@ pub struct Literal {
 
 /// An operator before its operand.
 #[derive(Clone, Copy, Debug, PartialEq, Eq)]
-pub enum Unary {
+pub enum UnaryOperator {
     Plus,
     Minus,
     Abs,
@@ -47,7 +47,7 @@ pub enum Unary {
 
 /// An operator between its operands.
 #[derive(Clone, Copy, Debug, PartialEq, Eq)]
-pub enum Binary {
+pub enum BinaryOperator {
     And,
     Or,
     Xor,
@@ -102,6 +102,6 @@ pub enum Expr {
     Call(Name, Items<Expr>),
     Attribute(Name, Attribute),
     Paren(Place, Boxed<Expr>),
-    Unary(Unary, Place, Boxed<Expr>),
-    Binary(Binary, Boxed<Expr>, Boxed<Expr>),
+    Unary(UnaryOperator, Place, Boxed<Expr>),
+    Binary(BinaryOperator, Boxed<Expr>, Boxed<Expr>),
 }

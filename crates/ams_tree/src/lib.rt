@@ -17,9 +17,10 @@ pub use declaration::{
 };
 pub use design::{Architecture, DesignFile, DesignUnit, Entity, Path};
 pub use expression::{
-    Attribute, Binary, Expr, Literal, LiteralValue, Name, Number, NumberValue, Unary,
+    Attribute, BinaryOperator, Expr, Literal, LiteralValue, Name, Number, NumberValue,
+    UnaryOperator,
 };
 pub use sequential::{
-    Alternative, Assertion, Branch, BreakElement, Choice, Delay, Iteration, Report, Seq,
+    Alternative, Assertion, Branch, BreakElement, Choice, DelayMechanism, Iteration, Report, Seq,
     WaveformElement,
 };

@@ -5,7 +5,7 @@ use sqlite_items::Items;
 
 /// How a signal takes its new values. An inertial delay may have a rejection limit.
 #[derive(Drop)]
-pub enum Delay {
+pub enum DelayMechanism {
     Transport(Place),
     Reject(Place, Expr),
     Inertial(Place),
@@ -79,7 +79,7 @@ pub struct Alternative {
 #[derive(Drop)]
 pub enum Seq {
     /// A signal, and its new values.
-    Signal(Name, Option<Delay>, Items<WaveformElement>),
+    Signal(Name, Option<DelayMechanism>, Items<WaveformElement>),
     /// A variable, and its new value.
     Variable(Name, Expr),
     /// The branches of `if` and `elsif`, and that of `else`.

@@ -3,14 +3,19 @@ use Rattle.std.specs.Prelude.{◌≡◌, ◌+◌, ◌-◌, ℕ, List, drop, Resu
 use Rattle.ams_token.specs.declared.token.Token.{Token}
 use Rattle.ams_tree.specs.Rule.{Rule}
 use Rattle.ams_tree.specs.Answer.{IsRead, IsSyntax, IsTooDeep}
+use Rattle.parse_steps.specs.declared.limits.TheConstants.{MOST_LEVELS, MOST_OPERATORS}
 use Rattle.parse_steps.specs.declared.reader.Stop.{Stop}
 use Rattle.parse_steps.specs.declared.reader.Stop.TheVariants as stop
 use Rattle.parse_steps.specs.declared.fault.ParseFault.{ParseFault}
 use Rattle.parse_steps.specs.declared.fault.ParseFault.TheVariants.{Memory, Syntax, TooDeep}
 
+-- how many levels may be open one in another
+abbrev pub most_levels : ℕ
+most_levels = MOST_LEVELS
+
 -- how many operators, calls and attributes an outermost expression may have
 abbrev pub most_operators : ℕ
-most_operators = 256
+most_operators = MOST_OPERATORS
 
 -- A place is counted from the first token.
 abbrev pub Answers : {A : Type 0} → (ℕ → ℕ → Rule A) → ℕ → List Token → ℕ → Result (A × ℕ) ParseFault → Type 0

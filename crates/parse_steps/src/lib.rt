@@ -2,7 +2,9 @@
 #![tactic(auto)]
 
 mod fault;
+mod limits;
 mod reader;
 
 pub use fault::{ParseFault, fault_at};
+pub use limits::{MOST_LEVELS, MOST_OPERATORS};
 pub use reader::{Reader, Stop};

@@ -74,6 +74,17 @@ impl<'t> Reader<'t> {
         }
     }
 
+    /// Whether the token behind the next one is of this kind.
+    #[tactic(auto, unfolding(ams_tree::specs::Terminals::of_class))]
+    pub fn at_second(&self, kind: TokenKind) -> bool
+        ensures { result ≡ reading.at (of_class (kind_class kind)) (reading.tail self.now.rest) }
+    {
+        match self.rest {
+            [_, second, ..] => second.kind.is(kind),
+            _ => false,
+        }
+    }
+
     /// The place of the next token, where it is of this kind.
     #[tactic(auto, unfolding(ams_tree::specs::Terminals::of_class))]
     pub fn place(&self, kind: TokenKind) -> Option<Place>
