@@ -2,10 +2,10 @@
 use Rattle.std.specs.Prelude.{ℕ, Bool, true, false, ◌&&◌, List, [], ◌∷◌, ◌++◌, Option, Some, None, is_some}
 use Rattle.ams_token.specs.declared.token.Place.{Place}
 use Rattle.ams_tree.specs.declared.expression.Name.{Name}
-use Rattle.ams_tree.specs.declared.expression.Unary.{Unary}
-use Rattle.ams_tree.specs.declared.expression.Unary.TheVariants as unary
-use Rattle.ams_tree.specs.declared.expression.Binary.{Binary}
-use Rattle.ams_tree.specs.declared.expression.Binary.TheVariants as binary
+use Rattle.ams_tree.specs.declared.expression.UnaryOperator.{UnaryOperator as Unary}
+use Rattle.ams_tree.specs.declared.expression.UnaryOperator.TheVariants as unary
+use Rattle.ams_tree.specs.declared.expression.BinaryOperator.{BinaryOperator as Binary}
+use Rattle.ams_tree.specs.declared.expression.BinaryOperator.TheVariants as binary
 use Rattle.ams_tree.specs.declared.expression.Attribute.{Attribute}
 use Rattle.ams_tree.specs.declared.expression.Expr.{Expr}
 use Rattle.ams_tree.specs.declared.expression.Attribute.TheOpen.{Expr-F, Attribute-F}

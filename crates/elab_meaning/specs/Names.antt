@@ -16,7 +16,7 @@ use Rattle.flat_expr.specs.declared.expr.Function.TheVariants as function
 use Rattle.flat_expr.specs.declared.expr.FlatExpr.{FlatExpr}
 use Rattle.flat_expr.specs.declared.expr.FlatExpr.TheVariants as e
 use Rattle.flat_expr.specs.Expr.{kind_of_call}
-use Rattle.flat_design.specs.Lists.{place_of_dot, place_of_threshold}
+use Rattle.flat_design.specs.Lists.{number_of_dot, number_of_threshold}
 use Rattle.flat_design.specs.declared.objects.Threshold.{Threshold}
 use Rattle.flat_design.specs.declared.objects.Terminal.TheVariants as terminal
 use Rattle.name_scope.specs.declared.thing.Thing.{Thing}
@@ -175,7 +175,7 @@ event_in c _ x t n = event_at c x t n
 -- 'dot asks for a quantity
 abbrev pub dot : Context → Name → ℕ → Notes → Found
 dot c x q n =
-    (dotted q (changing c x.place n), Some (record { place = x.place; kind = Of t.Real; expr = e.Unknown (unknown.Dot (place_of_dot q n.dots)); value = Changing }))
+    (dotted q (changing c x.place n), Some (record { place = x.place; kind = Of t.Real; expr = e.Unknown (unknown.Dot (number_of_dot q n.dots)); value = Changing }))
 
 abbrev pub dot_at : Context → Name → Option Thing → Notes → Found
 dot_at c x None n = unknown_name x n
@@ -201,7 +201,7 @@ threshold q level = record { quantity = q; level = level_of level.value }
 
 abbrev pub above : Place → Threshold → Notes → Found
 above place h n =
-    (watched h n, Some (record { place = place; kind = Of t.Boolean; expr = e.Signal (signal.Threshold (place_of_threshold h n.thresholds)) t.Boolean; value = Changing }))
+    (watched h n, Some (record { place = place; kind = Of t.Boolean; expr = e.Signal (signal.Threshold (number_of_threshold h n.thresholds)) t.Boolean; value = Changing }))
 
 -- 'above asks for a quantity, and for a level of REAL
 abbrev pub above_at : Name → Option Thing → Option Asked → Notes → Found

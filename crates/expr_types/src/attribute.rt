@@ -1,6 +1,6 @@
 //! Attributes of names.
 ghost use Rattle.std.specs.Prelude.{◌≡◌, Some, nat_eq, position, IfOk, IfSome, OnOk};
-ghost use Rattle.flat_design.specs.Lists.{place_of_dot, place_of_threshold, same_threshold};
+ghost use Rattle.flat_design.specs.Lists.{number_of_dot, number_of_threshold, same_threshold};
 ghost use Rattle.elab_meaning.specs.Names as spec;
 ghost use Rattle.elab_meaning.specs.Notes as noted;
 ghost use Rattle.expr_types.specs.Known.{Finds, IsSound};
@@ -90,8 +90,8 @@ fn position_of_dot(dots: &[u32], quantity: u32) -> Option<usize>
 }
 
 /// The number of the dot of a quantity, or the number of dots where there is none.
-fn place_of_dot(dots: &[u32], quantity: u32) -> usize
-    ensures { result ≡ place_of_dot quantity dots.now }
+fn number_of_dot(dots: &[u32], quantity: u32) -> usize
+    ensures { result ≡ number_of_dot quantity dots.now }
 {
     match position_of_dot(dots, quantity) {
         Some(place) => place,
@@ -101,10 +101,10 @@ fn place_of_dot(dots: &[u32], quantity: u32) -> usize
 
 /// The number of the dot of a quantity, which is added where there is none like it yet.
 fn add_dot(quantity: u32, notes: &mut Notes) -> Result<u32, AllocError>
-    ensures number { IfOk result (λ number. number ≡ place_of_dot quantity notes.old.dots) }
+    ensures number { IfOk result (λ number. number ≡ number_of_dot quantity notes.old.dots) }
     ensures ok { OnOk result (notes.new ≡ noted.dotted quantity notes.old) }
 {
-    let place = place_of_dot(notes.dots.as_slice(), quantity);
+    let place = number_of_dot(notes.dots.as_slice(), quantity);
     let Ok(number) = u32::try_from(place) else {
         return Err(AllocError);
     };
@@ -183,8 +183,8 @@ fn position_of_threshold(thresholds: &[Threshold], threshold: &Threshold) -> Opt
     thresholds.iter().position(|other| other == threshold)
 }
 
-fn place_of_threshold(thresholds: &[Threshold], threshold: &Threshold) -> usize
-    ensures { result ≡ place_of_threshold threshold.now thresholds.now }
+fn number_of_threshold(thresholds: &[Threshold], threshold: &Threshold) -> usize
+    ensures { result ≡ number_of_threshold threshold.now thresholds.now }
 {
     match position_of_threshold(thresholds, threshold) {
         Some(place) => place,
@@ -194,10 +194,10 @@ fn place_of_threshold(thresholds: &[Threshold], threshold: &Threshold) -> usize
 
 /// The number of a threshold, which is added where there is none like it yet.
 fn add_threshold(threshold: Threshold, notes: &mut Notes) -> Result<u32, AllocError>
-    ensures number { IfOk result (λ number. number ≡ place_of_threshold threshold notes.old.thresholds) }
+    ensures number { IfOk result (λ number. number ≡ number_of_threshold threshold notes.old.thresholds) }
     ensures ok { OnOk result (notes.new ≡ noted.watched threshold notes.old) }
 {
-    let place = place_of_threshold(notes.thresholds.as_slice(), &threshold);
+    let place = number_of_threshold(notes.thresholds.as_slice(), &threshold);
     let Ok(number) = u32::try_from(place) else {
         return Err(AllocError);
     };

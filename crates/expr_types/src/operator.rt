@@ -11,7 +11,7 @@ use crate::kinds::{binary_kind, unary_kind, value_type};
 use crate::note::wrong;
 use crate::value::{joined_value, unary_value};
 use ams_token::Place;
-use ams_tree::{Binary, Unary};
+use ams_tree::{BinaryOperator as Binary, UnaryOperator as Unary};
 use ams_value::{UnaryOperator, BinaryOperator, results_are_typed};
 use elab_meaning::{Notes, Typed};
 use flat_expr::FlatExpr;
@@ -59,50 +59,6 @@ fn infix_of(op: Binary) -> BinaryOperator
         Binary::Mod => BinaryOperator::Mod,
         Binary::Rem => BinaryOperator::Rem,
         Binary::Power => BinaryOperator::Power,
-    }
-}
-
-#[tactic(auto, using(crate::proofs::Sound::may_unary, crate::proofs::Sound::unary_sound))]
-fn prefixed(
-    alloc: Global,
-    op: UnaryOperator,
-    place: Place,
-    operand: Typed,
-    kind: ValueType,
-) -> Result<Typed, AllocError>
-    requires kind { unary_type op (kind_of operand.expr) ≡ Some kind }
-    requires sound { IsSound operand }
-    ensures made { IfOk result (λ t. t ≡ record { place = place; expr = e.Unary op kind operand.expr; value = unary_value op operand.value }) }
-    ensures sound { IfOk result IsSound }
-{
-    results_are_typed();
-    let value = unary_value(op, operand.value);
-    Ok(Typed {
-        place,
-        expr: FlatExpr::unary(alloc, op, kind, operand.expr)?,
-        value,
-    })
-}
-
-/// An operator before an expression; none where that breaks a rule.
-pub fn unary_at(
-    alloc: Global,
-    op: Unary,
-    place: Place,
-    operand: Option<Typed>,
-    notes: &mut Notes,
-) -> Result<Option<Typed>, AllocError>
-    requires { IfSome operand IsSound }
-    ensures found { Finds (spec.unary_at (spec.prefix op) place operand notes.old) result notes.new }
-    ensures sound { IfOk result (λ t. IfSome t IsSound) }
-{
-    let Some(operand) = operand else {
-        return Ok(None);
-    };
-    let op = prefix(op);
-    match unary_type(op, operand.expr.kind()) {
-        Some(kind) => Ok(Some(prefixed(alloc, op, place, operand, kind)?)),
-        None => wrong(notes, place),
     }
 }
 
