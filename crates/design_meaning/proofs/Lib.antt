@@ -1,3 +1,4 @@
 pub mod Meanings
 pub mod SetLaws
 pub mod WorkedRows
+pub mod SolutionLaws

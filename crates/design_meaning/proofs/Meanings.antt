@@ -2,7 +2,6 @@
 use Rattle.std.proofs.Common.{◌≡◌, ap, sym, ◌∙◌}
 use Rattle.ams_value.specs.declared.val.Val.{Val}
 use Rattle.flat_expr.specs.declared.expr.Unknown.{Unknown}
-use Rattle.flat_expr.specs.declared.expr.FlatExpr.{FlatExpr}
 use Rattle.flat_expr.specs.declared.expr.FlatExpr.TheOpen.{FlatExpr-F}
 use Rattle.flat_expr.specs.declared.expr.FlatExpr.TheVariants as e
 use Rattle.flat_expr.specs.declared.expr.FlatExpr.TheVariants.{rolls-Literal, rolls-Signal, rolls-Event, rolls-Unknown, rolls-Variable, rolls-NowTime, rolls-NowReal, rolls-Unary, rolls-Binary, rolls-Call, rolls-Index}

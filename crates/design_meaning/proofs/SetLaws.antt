@@ -1,13 +1,12 @@
 -- Laws of the equation sets.
-use Rattle.std.proofs.Common.{◌≡◌, ℕ, ◌+◌, zero, suc, Bool, true, false, List, [], ◌∷◌, ◌++◌, length, refl, ap, ◌∙◌, arith, length-append, add-zero, zero-add}
-use Rattle.std.specs.Prelude.{Option, Some, None}
+use Rattle.std.proofs.Common.{◌≡◌, ℕ, ◌+◌, zero, suc, Bool, true, false, List, [], ◌∷◌, length, refl, ap, ◌∙◌, arith, length-append, add-zero, zero-add}
+use Rattle.std.specs.Prelude.{Some}
 use Rattle.std.specs.List.{slice_get}
 use Rattle.flat_design.specs.declared.objects.Quantity.{Quantity}
 use Rattle.flat_design.specs.declared.objects.QuantityKind.{QuantityKind}
 use Rattle.flat_design.specs.declared.objects.QuantityKind.TheVariants as kind
-use Rattle.flat_design.specs.declared.objects.Objects.{Objects}
 use Rattle.step_data.specs.declared.breaks.Element.{Element}
-use Rattle.design_meaning.specs.Equations.{BranchEnd, Row, Augmentation, end_at, is_node, ends_by, ends_from, ends_at, rows_of, common_rows, augmentation, augmentations_from, element_of, replaced}
+use Rattle.design_meaning.specs.Equations.{BranchEnd, Augmentation, end_at, is_node, ends_by, ends_from, rows_of, augmentation, augmentations_from, element_of, replaced_by_break}
 use Rattle.design_meaning.specs.Laws.{one_if, ends_counted, branch_ends, SumsHaveTheBranchEnds, SetsDifferInAugmentation}
 
 length-end_at : (b : Bool) (x : BranchEnd) → length (end_at b x) ≡ one_if b
@@ -35,7 +34,7 @@ length-augmentations set elements d [] = refl
 length-augmentations set elements d (q ∷ qs) = ap suc (length-augmentations set elements (d + 1) qs)
 
 own_row : (set : Augmentation) (elements : List Element) (from d q : ℕ) (qs : List ℕ) → slice_get qs d ≡ Some q
-    → slice_get (augmentations_from set elements from qs) d ≡ Some (replaced (element_of q elements) (augmentation set (from + d) q))
+    → slice_get (augmentations_from set elements from qs) d ≡ Some (replaced_by_break (element_of q elements) (augmentation set (from + d) q))
 own_row set elements from d q [] h = cc
 own_row set elements from zero q (p ∷ qs) h =
     let same : p ≡ q = cc in

@@ -1,6 +1,6 @@
 -- Small designs with their solutions, by computation.
-use Rattle.std.proofs.Common.{◌≡◌, refl, ap, ◌∙◌, List, [], ◌∷◌, ℕ, true, false}
-use Rattle.std.specs.Prelude.{pos, ℤ, Result, Ok, Err}
+use Rattle.std.proofs.Common.{◌≡◌, ap, ◌∙◌, List, [], ◌∷◌, ℕ, true, false}
+use Rattle.std.specs.Prelude.{pos, ℤ, Result}
 use Rattle.fix_core.specs.Rounding.{nearest, rnd}
 use Rattle.fix_core.specs.Passes.{each, and_then}
 use Rattle.fix_core.specs.Fixed.{ranged, sum_of, difference_of, product_of, quotient_of, tenfold_of}
@@ -14,16 +14,14 @@ use Rattle.flat_design.specs.declared.objects.Objects.{Objects}
 use Rattle.step_data.specs.declared.outcome.Cause.{Cause}
 use Rattle.step_data.specs.declared.outcome.ChooseKind.{ChooseKind}
 use Rattle.step_data.specs.declared.outcome.ChooseKind.TheVariants.{Quiet, Timed}
-use Rattle.step_data.specs.declared.outcome.SetKind.TheVariants.{Quiescent}
 use Rattle.step_data.specs.declared.breaks.Element.{Element}
 use Rattle.step_data.specs.declared.tip.Tip.{Tip}
-use Rattle.step_model.specs.System.{Landing}
 use Rattle.design_meaning.specs.Value.{Meaning, meaning_at, meaning_of}
 use Rattle.design_meaning.specs.Reading.{readings_of, dots_in}
-use Rattle.design_meaning.specs.Equations.{Row, Augmentation, written, quiescent, time_domain, augmentations_from, balance_from, rows_of}
+use Rattle.design_meaning.specs.Equations.{Augmentation, written, quiescent, time_domain, augmentations_from, balance_from, rows_of}
 use Rattle.design_meaning.specs.Newton.{corrected, round, newton}
 use Rattle.design_meaning.specs.Steps.{choose, trial, settle, landed, step_error}
-use Rattle.design_meaning.specs.Worked.{WorkedSolutions, literal, ramp, options, at_zero}
+use Rattle.design_meaning.specs.Worked.{WorkedSolutions, literal, ramp, at_zero}
 use Rattle.design_meaning.proofs.Meanings.{meaning-literal, meaning-unknown}
 
 -- newton for a design of one equation, of which the two sides mean this

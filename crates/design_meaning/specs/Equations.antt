@@ -1,9 +1,9 @@
 -- The equation sets (IEEE 1076.1 names them; their discrete forms are own), and what a break replaces.
-use Rattle.std.specs.Prelude.{ℕ, zero, suc, ◌+◌, ◌*◌, nat_eq, Bool, true, false, ℤ, pos, negsuc, ◌+ℤ◌, ◌-ℤ◌, ◌*ℤ◌, neg_ℤ, if◌then◌else◌, List, [], ◌∷◌, ◌++◌, map, Option, Some, None, Result, Ok, Err}
-use Rattle.std.specs.List.{slice_index_or, slice_get, enumerate_from, flat_map, filter_map, find}
-use Rattle.fix_core.specs.Passes.{each}
+use Rattle.std.specs.Prelude.{ℕ, zero, suc, ◌+◌, ◌*◌, nat_eq, Bool, true, false, ℤ, pos, ◌+ℤ◌, ◌*ℤ◌, neg_ℤ, if◌then◌else◌, List, [], ◌∷◌, ◌++◌, map, Option, Some, None, Result, Ok}
+use Rattle.std.specs.List.{enumerate_from}
+use Rattle.fix_core.specs.Passes.{◌>>=◌}
 use Rattle.fix_core.specs.Rounding.{rnd}
-use Rattle.fix_core.specs.Fixed.{one}
+use Rattle.fix_core.specs.Units.{one, units_per_one}
 use Rattle.flat_expr.specs.declared.expr.Unknown.{Unknown}
 use Rattle.flat_expr.specs.declared.expr.Unknown.TheVariants.{Quantity, Reference, Dot}
 use Rattle.flat_design.specs.declared.objects.Terminal.{Terminal}
@@ -21,7 +21,6 @@ use Rattle.flat_design.specs.declared.objects.Equation.TheVariants as equation
 use Rattle.flat_design.specs.declared.objects.Objects.{Objects}
 use Rattle.step_data.specs.declared.breaks.Element.{Element}
 use Rattle.design_meaning.specs.declared.fault.EvalFault.{EvalFault}
-use Rattle.design_meaning.specs.Faults.{numeric, ◌>>=◌}
 use Rattle.design_meaning.specs.Readings.{Readings, unknown_of}
 use Rattle.design_meaning.specs.Value.{Meaning, meaning_of, number_of, plus, minus, times, same_unknown}
 
@@ -76,7 +75,7 @@ residual_of (euler q d start s) r = do
   right ← plus start gain
   minus (unknown_of r (Quantity q)) right
 residual_of (trapezoid q d start rate s) r = do
-  right ← plus start (rnd (pos s *ℤ (unknown_of r (Dot d) +ℤ rate)) (pos 2000000000000))
+  right ← plus start (rnd (pos s *ℤ (unknown_of r (Dot d) +ℤ rate)) (pos (2 * units_per_one)))
   minus (unknown_of r (Quantity q)) right
 
 -- ---- slopes
@@ -193,14 +192,14 @@ element_of p (e ∷ more) = later (element_of p more) (if nat_eq e.selector p th
     later None found = found
 
 -- a break element in place of the augmentation equation
-abbrev pub replaced : Option Element → Row → Row
-replaced (Some e) row = given (Quantity e.quantity) e.value
-replaced None row = row
+abbrev pub replaced_by_break : Option Element → Row → Row
+replaced_by_break (Some e) row = given (Quantity e.quantity) e.value
+replaced_by_break None row = row
 
 abbrev pub augmentations_from : Augmentation → List Element → ℕ → List ℕ → List Row
 augmentations_from set elements d [] = []
 augmentations_from set elements d (q ∷ more) =
-    replaced (element_of q elements) (augmentation set d q) ∷ augmentations_from set elements (d + 1) more
+    replaced_by_break (element_of q elements) (augmentation set d q) ∷ augmentations_from set elements (d + 1) more
 
 abbrev pub row_of : Pair → Row
 row_of p = written (meaning_of p.left) (meaning_of p.right)

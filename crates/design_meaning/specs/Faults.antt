@@ -1,6 +1,6 @@
 -- The faults of an evaluation.
 use Rattle.std.specs.Prelude.{ℕ, Result, Ok, Err}
-use Rattle.fix_core.specs.Passes.{and_then}
+use Rattle.message_codes.specs.Codes.{domain_fault, range, value_overflow, value_divide_by_zero}
 use Rattle.fix_core.specs.declared.NumFault.{NumFault}
 use Rattle.fix_core.specs.declared.NumFault.TheVariants as number
 use Rattle.ams_value.specs.declared.fault.ValFault.{ValFault}
@@ -9,10 +9,10 @@ use Rattle.design_meaning.specs.declared.fault.EvalFault.{EvalFault}
 use Rattle.design_meaning.specs.declared.fault.EvalFault.TheVariants as fault
 
 abbrev pub code_of : EvalFault → ℕ
-code_of fault.Domain = 3
-code_of fault.Range = 30
-code_of fault.Overflow = 31
-code_of fault.DivideByZero = 32
+code_of fault.Domain = domain_fault
+code_of fault.Range = range
+code_of fault.Overflow = value_overflow
+code_of fault.DivideByZero = value_divide_by_zero
 
 -- the fault of a number in an expression
 abbrev pub of_number : NumFault → EvalFault
@@ -33,8 +33,3 @@ numeric (Err e) = Err (of_number e)
 abbrev pub operated : {A : Type 0} → Result A ValFault → Result A EvalFault
 operated (Ok a) = Ok a
 operated (Err e) = Err (of_operator e)
-
--- what follows where there was an answer; the first fault is the fault of the whole
-infixl 10 ◌>>=◌
-abbrev pub ◌>>=◌ : {A B : Type 0} → Result A EvalFault → (A → Result B EvalFault) → Result B EvalFault
-m >>= f = and_then f m

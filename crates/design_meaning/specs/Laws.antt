@@ -1,12 +1,12 @@
 -- Laws of the equation sets.
-use Rattle.std.specs.Prelude.{◌≡◌, ℕ, ◌+◌, Bool, true, false, List, [], ◌∷◌, ◌++◌, length, Option, Some, None, map}
+use Rattle.std.specs.Prelude.{◌≡◌, ℕ, ◌+◌, Bool, true, false, List, [], ◌∷◌, ◌++◌, length, Some}
 use Rattle.std.specs.List.{slice_get}
 use Rattle.flat_design.specs.declared.objects.Quantity.{Quantity}
 use Rattle.flat_design.specs.declared.objects.QuantityKind.{QuantityKind}
 use Rattle.flat_design.specs.declared.objects.QuantityKind.TheVariants as kind
 use Rattle.flat_design.specs.declared.objects.Objects.{Objects}
 use Rattle.step_data.specs.declared.breaks.Element.{Element}
-use Rattle.design_meaning.specs.Equations.{Row, Augmentation, is_node, ends_at, rows_of, common_rows, augmentation, augmentations_from, element_of, replaced}
+use Rattle.design_meaning.specs.Equations.{Augmentation, is_node, ends_at, rows_of, common_rows, augmentation, augmentations_from, element_of, replaced_by_break}
 
 abbrev pub one_if : Bool → ℕ
 one_if true = 1
@@ -32,4 +32,4 @@ pub record SetsDifferInAugmentation : Type 0 where
       → rows_of objects branches set elements ≡ common_rows objects branches ++ augmentations_from set elements 0 objects.dots
   pub one_each : (objects : Objects) (set : Augmentation) (elements : List Element) → length (augmentations_from set elements 0 objects.dots) ≡ length objects.dots
   pub own : (objects : Objects) (set : Augmentation) (elements : List Element) (d q : ℕ) → slice_get objects.dots d ≡ Some q
-      → slice_get (augmentations_from set elements 0 objects.dots) d ≡ Some (replaced (element_of q elements) (augmentation set d q))
+      → slice_get (augmentations_from set elements 0 objects.dots) d ≡ Some (replaced_by_break (element_of q elements) (augmentation set d q))

@@ -6,6 +6,7 @@ pub mod Equations
 pub mod Reading
 pub mod Newton
 pub mod Steps
+pub mod Solutions
 pub mod Laws
 pub mod Worked
 pub mod Variants

@@ -1,8 +1,9 @@
 -- Newton's method on an equation set (own).
-use Rattle.std.specs.Prelude.{ℕ, zero, suc, Bool, true, false, nat_le, ℤ, unsigned_abs, List, [], ◌∷◌, ◌++◌, map, Result, Ok, Err}
+use Rattle.std.specs.Prelude.{ℕ, zero, suc, Bool, true, false, nat_le, ℤ, unsigned_abs, List, [], ◌∷◌, ◌++◌, Result, Ok, Err}
 use Rattle.std.specs.List.{list_all}
+use Rattle.message_codes.specs.Codes.{singular, solver_overflow, no_convergence}
 use Rattle.fix_core.specs.declared.NumFault.{NumFault}
-use Rattle.fix_core.specs.Passes.{and_then, each}
+use Rattle.fix_core.specs.Passes.{and_then, each, ◌>>=◌}
 use Rattle.fix_core.specs.Fixed.{difference_of}
 use Rattle.flat_expr.specs.declared.expr.Unknown.{Unknown}
 use Rattle.lin_solve.specs.declared.LinFault.{LinFault}
@@ -10,7 +11,7 @@ use Rattle.lin_solve.specs.declared.LinFault.TheVariants.{Singular, Overflow}
 use Rattle.lin_solve.specs.Elimination.{solution_of}
 use Rattle.step_data.specs.declared.outcome.Cause.{Cause}
 use Rattle.design_meaning.specs.declared.fault.EvalFault.{EvalFault}
-use Rattle.design_meaning.specs.Faults.{code_of, ◌>>=◌}
+use Rattle.design_meaning.specs.Faults.{code_of}
 use Rattle.design_meaning.specs.Readings.{Readings}
 use Rattle.design_meaning.specs.Equations.{Row, residual_of, row_slope}
 
@@ -25,13 +26,13 @@ of_evaluation (Err e) = Err (cause (code_of e))
 
 abbrev pub of_solution : {A : Type 0} → Result A LinFault → Result A Cause
 of_solution (Ok a) = Ok a
-of_solution (Err (Singular column)) = Err (record { code = 60; column = column })
-of_solution (Err Overflow) = Err (cause 61)
+of_solution (Err (Singular column)) = Err (record { code = singular; column = column })
+of_solution (Err Overflow) = Err (cause solver_overflow)
 
 -- the correction is subtracted within the same cause as an overflow of elimination
 abbrev pub of_correction : {A : Type 0} → Result A NumFault → Result A Cause
 of_correction (Ok a) = Ok a
-of_correction (Err e) = Err (cause 61)
+of_correction (Err e) = Err (cause solver_overflow)
 
 -- ---- a round
 
@@ -75,7 +76,7 @@ judged false next x = next x
 
 -- so many rounds at most, at least one, from a point. After a round all residuals are evaluated before they are judged
 unfoldable pub newton : ℕ → Problem → List ℤ → Result (List ℤ) Cause
-newton zero p x = Err (cause 62)
+newton zero p x = Err (cause no_convergence)
 newton (suc n) p x =
     and_then (λ y. and_then (λ residuals. judged (within p.tol residuals) (newton n p) y) (of_evaluation (residuals_of p.rows (p.reads y))))
     (round p x)

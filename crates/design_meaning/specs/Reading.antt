@@ -1,5 +1,5 @@
 -- What the equations read under a frame.
-use Rattle.std.specs.Prelude.{ℕ, ◌+◌, Bool, true, false, ℤ, List, [], length, take, drop, map}
+use Rattle.std.specs.Prelude.{ℕ, ◌+◌, false, ℤ, List, [], length, take, drop, map}
 use Rattle.std.specs.List.{slice_index_or, range_with_len}
 use Rattle.ams_value.specs.declared.val.Val.{Val}
 use Rattle.ams_value.specs.declared.val.Val.TheVariants as val
@@ -7,7 +7,7 @@ use Rattle.flat_expr.specs.declared.expr.SignalName.{SignalName}
 use Rattle.flat_expr.specs.declared.expr.SignalName.TheVariants.{Signal, Threshold}
 use Rattle.flat_expr.specs.Expr.{same_signal}
 use Rattle.flat_design.specs.declared.objects.Objects.{Objects}
-use Rattle.flat_design.specs.Lists.{place}
+use Rattle.flat_design.specs.Lists.{number_in}
 use Rattle.flat_design.specs.Reads.{frame_of}
 use Rattle.step_data.specs.declared.outcome.ChooseKind.{ChooseKind}
 use Rattle.step_data.specs.declared.outcome.ChooseKind.TheVariants.{Quiet, Timed}
@@ -26,7 +26,7 @@ domain_of Timed = time_domain
 
 -- a signal of the frame, which equations read without its events
 abbrev pub framed : Objects → List Val → SignalName → Seen
-framed objects frame s = still (slice_index_or frame (place (λ other. same_signal other s) (frame_of objects)) (val.Bool false))
+framed objects frame s = still (slice_index_or frame (number_in (λ other. same_signal other s) (frame_of objects)) (val.Bool false))
 
 -- the values of the unknowns by their kinds
 abbrev pub quantities_in : Objects → List ℤ → List ℤ

@@ -1,11 +1,12 @@
 -- The branches chosen, a trial step and a settled point (own).
 use Rattle.std.specs.Prelude.{ℕ, ◌+◌, ◌*◌, max, nat_le, Bool, true, false, ℤ, ◌-ℤ◌, unsigned_abs, if◌then◌else◌, List, [], ◌∷◌, Option, Some, None, Result, Ok, Err}
 use Rattle.std.specs.List.{list_any}
-use Rattle.fix_core.specs.Passes.{and_then, each}
+use Rattle.message_codes.specs.Codes.{error_too_large}
+use Rattle.fix_core.specs.Units.{units_per_one}
+use Rattle.fix_core.specs.Passes.{and_then, each, ◌>>=◌}
 use Rattle.fix_core.specs.Rounding.{nearest}
 use Rattle.ams_value.specs.declared.val.Val.{Val}
-use Rattle.ams_value.specs.declared.val.Val.TheVariants as val
-use Rattle.ams_value.specs.Values.{equals}
+use Rattle.ams_value.specs.Values.{equals, is_true}
 use Rattle.flat_design.specs.declared.objects.IfArm.{IfArm}
 use Rattle.flat_design.specs.declared.objects.CaseArm.{CaseArm}
 use Rattle.flat_design.specs.declared.objects.Selection.{Selection}
@@ -24,18 +25,13 @@ use Rattle.step_data.specs.declared.outcome.SetKind.{SetKind}
 use Rattle.step_data.specs.declared.outcome.SetKind.TheVariants.{Quiescent, Discontinuity}
 use Rattle.step_model.specs.System.{Landing}
 use Rattle.design_meaning.specs.declared.fault.EvalFault.{EvalFault}
-use Rattle.design_meaning.specs.Faults.{◌>>=◌}
 use Rattle.design_meaning.specs.Readings.{Readings}
 use Rattle.design_meaning.specs.Reading.{readings_of, dots_in}
 use Rattle.design_meaning.specs.Value.{value_of}
-use Rattle.design_meaning.specs.Equations.{Row, rows_of, Augmentation, quiescent, discontinuity, time_domain}
+use Rattle.design_meaning.specs.Equations.{rows_of, Augmentation, quiescent, discontinuity, time_domain}
 use Rattle.design_meaning.specs.Newton.{Problem, newton, cause, of_evaluation}
 
 -- ---- the branches
-
-abbrev pub is_true : Val → Bool
-is_true (val.Bool b) = b
-is_true _ = false
 
 -- this branch where its condition is TRUE, else what comes next
 abbrev pub taken : Bool → ℕ → Result ℕ EvalFault → Result ℕ EvalFault
@@ -98,11 +94,11 @@ rounds = 20
 abbrev pub step_error : ℕ → List ℤ → List ℤ → ℕ
 step_error s [] after = 0
 step_error s (d ∷ before) [] = 0
-step_error s (d ∷ before) (e ∷ after) = max (nearest (s * unsigned_abs (e -ℤ d)) 2000000000000) (step_error s before after)
+step_error s (d ∷ before) (e ∷ after) = max (nearest (s * unsigned_abs (e -ℤ d)) (2 * units_per_one)) (step_error s before after)
 
 -- a solution is refused where its error is above the limit
 abbrev pub landed : ℕ → ℕ → List ℤ → Result Landing Cause
-landed limit err x = if nat_le err limit then Ok (record { x = x; err = err }) else Err (cause 63)
+landed limit err x = if nat_le err limit then Ok (record { x = x; err = err }) else Err (cause error_too_large)
 
 -- a step of a size from a tip: by backward Euler from a fresh tip, else by the trapezoidal rule
 unfoldable pub trial : Objects → Options → List Val → Tip → ℕ → Result Landing Cause

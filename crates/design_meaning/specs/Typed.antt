@@ -1,13 +1,13 @@
 -- Well-typed expressions, and readings of the right types (IEEE 1076, clause 9; the types of operators by their tables).
-use Rattle.std.specs.Prelude.{◌≡◌, ℕ, ◌<◌, ◌≤◌, nat_eq, nat_lt, Bool, true, false, ℤ, if◌then◌else◌, List, length, Option, Some, None, map}
+use Rattle.std.specs.Prelude.{◌≡◌, ℕ, ◌≤◌, nat_eq, nat_lt, Bool, true, false, IsTrue, List, length, Option, Some, None, map}
 use Rattle.std.specs.List.{slice_get, All}
-use Rattle.fix_core.specs.Fixed.{IsInRange}
+use Rattle.fix_core.specs.Units.{most_ticks}
 use Rattle.ams_value.specs.declared.val.Val.{Val}
 use Rattle.ams_value.specs.declared.value_type.ValueType.{ValueType}
 use Rattle.ams_value.specs.declared.value_type.ValueType.TheVariants.{Boolean, Bit, Integer, Real, Time, Enumeration, BitVector}
-use Rattle.ams_value.specs.declared.op.Op1.{Op1}
-use Rattle.ams_value.specs.declared.op.Op2.{Op2}
-use Rattle.ams_value.specs.Types.{type_of, IsValue, unary_type, binary_type}
+use Rattle.ams_value.specs.declared.op.UnaryOperator.{UnaryOperator}
+use Rattle.ams_value.specs.declared.op.BinaryOperator.{BinaryOperator}
+use Rattle.ams_value.specs.Types.{type_of, unary_type, binary_type, is_in_range}
 use Rattle.flat_expr.specs.declared.expr.SignalName.{SignalName}
 use Rattle.flat_expr.specs.declared.expr.SignalName.TheVariants as name
 use Rattle.flat_expr.specs.declared.expr.Unknown.{Unknown}
@@ -29,8 +29,10 @@ same_type (Enumeration m) (Enumeration n) = nat_eq m n
 same_type (BitVector m) (BitVector n) = nat_eq m n
 same_type _ _ = false
 
--- what names there are: the types of the signals and of the variables, and how many thresholds and unknowns of each kind
+-- how many literals each enumeration type has, and what names there are: the types of the signals and of the variables, and
+-- how many thresholds and unknowns of each kind
 pub record Scope : Type 0 where
+  pub enumerations : List ℕ
   pub signals : List ValueType
   pub thresholds : ℕ
   pub quantities : ℕ
@@ -61,11 +63,11 @@ unknown_type scope (unknown.Quantity i) = if_true (nat_lt i scope.quantities) Re
 unknown_type scope (unknown.Reference i) = if_true (nat_lt i scope.references) Real
 unknown_type scope (unknown.Dot i) = if_true (nat_lt i scope.dots) Real
 
-abbrev pub unary_result : Op1 → Option ValueType → Option ValueType
+abbrev pub unary_result : UnaryOperator → Option ValueType → Option ValueType
 unary_result op (Some a) = unary_type op a
 unary_result op None = None
 
-abbrev pub binary_result : Op2 → Option ValueType → Option ValueType → Option ValueType
+abbrev pub binary_result : BinaryOperator → Option ValueType → Option ValueType → Option ValueType
 binary_result op (Some a) (Some b) = binary_type op a b
 binary_result op _ _ = None
 
@@ -83,7 +85,7 @@ element_type (Some (BitVector n)) (Some Integer) = Some Bit
 element_type _ _ = None
 
 abbrev pub type_at : Scope → FlatExpr-F (Option ValueType) → Option ValueType
-type_at scope (FlatExpr-F.Literal v) = Some (type_of v)
+type_at scope (FlatExpr-F.Literal v) = if_true (is_in_range scope.enumerations v) (type_of v)
 type_at scope (FlatExpr-F.Signal s k) = agreed k (signal_type scope s)
 type_at scope (FlatExpr-F.Event s) = event_type (signal_type scope s)
 type_at scope (FlatExpr-F.Unknown u) = unknown_type scope u
@@ -102,24 +104,23 @@ typed scope = fold-FlatExpr (Option ValueType) (type_at scope)
 abbrev pub HasType : Scope → FlatExpr → ValueType → Type 0
 HasType scope e k = typed scope e ≡ Some k
 
--- a value of this type, in its type's range
-pub record IsOfType (k : ValueType) (v : Val) : Type 0 where
+-- a value of this type, in its type's range; the enumeration types have so many literals
+pub record IsOfType (enumerations : List ℕ) (k : ValueType) (v : Val) : Type 0 where
   pub kind_is : type_of v ≡ k
-  pub range : IsValue v
+  pub range : IsTrue (is_in_range enumerations v)
 
--- readings in which each name of a scope has a value of its type
+-- readings in which each name of a scope has a value of its type, in its range. An expression that reads an unknown asks the
+-- number itself
 pub record Reads (scope : Scope) (r : Readings) : Type 0 where
   pub signals : map (λ (s : Seen). type_of s.value) r.signals ≡ scope.signals
-  pub signals_range : All (λ (s : Seen). IsValue s.value) r.signals
+  pub signals_range : All (λ (s : Seen). IsTrue (is_in_range scope.enumerations s.value)) r.signals
   pub thresholds : length r.thresholds ≡ scope.thresholds
   pub thresholds_kind : All (λ (s : Seen). type_of s.value ≡ Boolean) r.thresholds
   pub domain : type_of r.domain.value ≡ Enumeration 0
+  pub domain_range : IsTrue (is_in_range scope.enumerations r.domain.value)
   pub quantities : length r.quantities ≡ scope.quantities
-  pub quantities_range : All IsInRange r.quantities
   pub references : length r.references ≡ scope.references
-  pub references_range : All IsInRange r.references
   pub dots : length r.dots ≡ scope.dots
-  pub dots_range : All IsInRange r.dots
   pub variables : map type_of r.variables ≡ scope.variables
-  pub variables_range : All IsValue r.variables
-  pub now : r.now ≤ 1000000000000000000
+  pub variables_range : All (λ v. IsTrue (is_in_range scope.enumerations v)) r.variables
+  pub now : r.now ≤ most_ticks

@@ -1,17 +1,17 @@
 -- The value of an expression (IEEE 1076, clause 9) and its partial slopes (own). The left operand comes first, and the
 -- first fault is the answer.
-use Rattle.std.specs.Prelude.{ℕ, zero, suc, ◌-◌, ◌/◌, ◌%◌, ◌^◌, nat_eq, nat_lt, Bool, true, false, ℤ, pos, negsuc, ◌+ℤ◌, ◌-ℤ◌, ◌*ℤ◌, neg_ℤ, int_lt, unsigned_abs, if◌then◌else◌, List, Option, Some, None, Result, Ok, Err}
-use Rattle.fix_core.specs.Passes.{and_then, each}
-use Rattle.fix_core.specs.Rounding.{rnd}
-use Rattle.fix_core.specs.Fixed.{one, sum_of, difference_of, product_of, quotient_of}
+use Rattle.std.specs.Prelude.{ℕ, suc, ◌-◌, ◌/◌, ◌%◌, ◌^◌, nat_eq, nat_lt, Bool, false, ℤ, pos, negsuc, ◌+ℤ◌, ◌-ℤ◌, ◌*ℤ◌, neg_ℤ, int_lt, if◌then◌else◌, List, Option, Some, None, Result, Ok, Err}
+use Rattle.fix_core.specs.Passes.{and_then, each, ◌>>=◌}
+use Rattle.fix_core.specs.Units.{one}
+use Rattle.fix_core.specs.Fixed.{ranged, sum_of, difference_of, product_of, quotient_of}
 use Rattle.math_fix.specs.Functions.{exp_of, sin_of, cos_of, sqrt_of}
 use Rattle.ams_value.specs.declared.val.Val.{Val}
 use Rattle.ams_value.specs.declared.val.Val.TheVariants as val
-use Rattle.ams_value.specs.declared.op.Op1.{Op1}
-use Rattle.ams_value.specs.declared.op.Op1.TheVariants as op1
-use Rattle.ams_value.specs.declared.op.Op2.{Op2}
-use Rattle.ams_value.specs.declared.op.Op2.TheVariants as op2
-use Rattle.ams_value.specs.Values.{unary_of, binary_of, decided_by, integer_of, real_of}
+use Rattle.ams_value.specs.declared.op.UnaryOperator.{UnaryOperator}
+use Rattle.ams_value.specs.declared.op.UnaryOperator.TheVariants as unary
+use Rattle.ams_value.specs.declared.op.BinaryOperator.{BinaryOperator}
+use Rattle.ams_value.specs.declared.op.BinaryOperator.TheVariants as binary
+use Rattle.ams_value.specs.Values.{unary_of, binary_of, decided_by, integer_of, real_of, real_powers, units_of}
 use Rattle.flat_expr.specs.declared.expr.Direction.{Direction}
 use Rattle.flat_expr.specs.declared.expr.Direction.TheVariants.{To, Downto}
 use Rattle.flat_expr.specs.declared.expr.IndexRange.{IndexRange}
@@ -24,15 +24,10 @@ use Rattle.flat_expr.specs.declared.expr.FlatExpr.TheOpen.{FlatExpr-F}
 use Rattle.flat_expr.specs.declared.expr.FlatExpr.TheFolds.{fold-FlatExpr}
 use Rattle.design_meaning.specs.declared.fault.EvalFault.{EvalFault}
 use Rattle.design_meaning.specs.declared.fault.EvalFault.TheVariants.{Range}
-use Rattle.design_meaning.specs.Faults.{numeric, operated, ◌>>=◌}
-use Rattle.design_meaning.specs.Readings.{Seen, Readings, seen_of, unknown_of, variable_of}
+use Rattle.design_meaning.specs.Faults.{numeric, operated}
+use Rattle.design_meaning.specs.Readings.{Readings, seen_of, unknown_of, variable_of}
 
 -- ---- the parts of a value
-
--- the units of a REAL; a typed expression never asks for those of another value
-abbrev pub units_of : Val → ℤ
-units_of (val.Real r) = r
-units_of _ = pos 0
 
 abbrev pub real : Result ℤ EvalFault → Result Val EvalFault
 real x = and_then (λ r. Ok (val.Real r)) x
@@ -78,7 +73,8 @@ abbrev pub value_at : FlatExpr-F Meaning → Readings → Result Val EvalFault
 value_at (FlatExpr-F.Literal v) r = Ok v
 value_at (FlatExpr-F.Signal s kind) r = Ok (seen_of r s).value
 value_at (FlatExpr-F.Event s) r = Ok (val.Bool (seen_of r s).event)
-value_at (FlatExpr-F.Unknown u) r = Ok (val.Real (unknown_of r u))
+-- a number that no REAL has is an overflow
+value_at (FlatExpr-F.Unknown u) r = real (numeric (ranged (unknown_of r u)))
 value_at (FlatExpr-F.Variable i kind) r = Ok (variable_of r i)
 value_at FlatExpr-F.NowTime r = Ok (val.Time (pos r.now))
 -- a tick is one unit of a second
@@ -108,24 +104,13 @@ same_unknown (unknown.Reference i) (unknown.Reference j) = nat_eq i j
 same_unknown (unknown.Dot i) (unknown.Dot j) = nat_eq i j
 same_unknown _ _ = false
 
--- a to the power of k: 1.0, or k - 1 products from the left
-unfoldable pub products : ℕ → ℤ → Result ℤ EvalFault
-products zero a = Ok a
-products (suc k) a = do
-  p ← products k a
-  times p a
-
-abbrev pub power_of : ℤ → ℕ → Result ℤ EvalFault
-power_of a zero = Ok one
-power_of a (suc k) = products k a
-
 abbrev pub is_negative : ℤ → Bool
 is_negative a = int_lt a (pos 0)
 
 -- the slope of op a, of a with the slope d
-abbrev pub unary_slope : Op1 → Result ℤ EvalFault → ℤ → Result ℤ EvalFault
-unary_slope op1.Minus a d = Ok (neg_ℤ d)
-unary_slope op1.Abs a d = do
+abbrev pub unary_slope : UnaryOperator → Result ℤ EvalFault → ℤ → Result ℤ EvalFault
+unary_slope unary.Minus a d = Ok (neg_ℤ d)
+unary_slope unary.Abs a d = do
   x ← a
   Ok (if is_negative x then neg_ℤ d else d)
 unary_slope _ a d = Ok d
@@ -134,23 +119,23 @@ unary_slope _ a d = Ok d
 abbrev pub power_slope : Result ℤ EvalFault → Result ℤ EvalFault → Val → Result ℤ EvalFault
 power_slope a d (val.Int (pos (suc k))) = do
   x ← a
-  p ← power_of x k
+  p ← numeric (real_powers x k)
   c ← times (pos (suc k) *ℤ one) p
   e ← d
   times c e
 power_slope a d _ = Ok (pos 0)
 
 -- the slope of a op b with the value v, of a and b with the slopes d and e. An operator whose result is no REAL has none
-abbrev pub binary_slope : Op2 → Result ℤ EvalFault → Result ℤ EvalFault → Result ℤ EvalFault → Result ℤ EvalFault → Result ℤ EvalFault → Result Val EvalFault → Result ℤ EvalFault
-binary_slope op2.Add v a d b e n = do
+abbrev pub binary_slope : BinaryOperator → Result ℤ EvalFault → Result ℤ EvalFault → Result ℤ EvalFault → Result ℤ EvalFault → Result ℤ EvalFault → Result Val EvalFault → Result ℤ EvalFault
+binary_slope binary.Add v a d b e n = do
   p ← d
   q ← e
   plus p q
-binary_slope op2.Subtract v a d b e n = do
+binary_slope binary.Subtract v a d b e n = do
   p ← d
   q ← e
   minus p q
-binary_slope op2.Multiply v a d b e n = do
+binary_slope binary.Multiply v a d b e n = do
   p ← d
   y ← b
   left ← times p y
@@ -158,7 +143,7 @@ binary_slope op2.Multiply v a d b e n = do
   q ← e
   right ← times x q
   plus left right
-binary_slope op2.Divide v a d b e n = do
+binary_slope binary.Divide v a d b e n = do
   p ← d
   whole ← v
   q ← e
@@ -166,7 +151,7 @@ binary_slope op2.Divide v a d b e n = do
   top ← minus p m
   y ← b
   over top y
-binary_slope op2.Power v a d b e n = n >>= power_slope a d
+binary_slope binary.Power v a d b e n = n >>= power_slope a d
 binary_slope _ v a d b e n = Ok (pos 0)
 
 -- the slope of a function of a with the value v, of a with the slope d

@@ -2,8 +2,8 @@
 use Rattle.std.specs.Prelude.{◌≡◌, ℕ}
 use Rattle.ams_value.specs.declared.val.Val.{Val}
 use Rattle.ams_value.specs.declared.value_type.ValueType.{ValueType}
-use Rattle.ams_value.specs.declared.op.Op1.{Op1}
-use Rattle.ams_value.specs.declared.op.Op2.{Op2}
+use Rattle.ams_value.specs.declared.op.UnaryOperator.{UnaryOperator}
+use Rattle.ams_value.specs.declared.op.BinaryOperator.{BinaryOperator}
 use Rattle.flat_expr.specs.declared.expr.SignalName.{SignalName}
 use Rattle.flat_expr.specs.declared.expr.Unknown.{Unknown}
 use Rattle.flat_expr.specs.declared.expr.Function.{Function}
@@ -21,7 +21,7 @@ pub record MeaningByVariants : Type 0 where
   pub variable : (i : ℕ) (k : ValueType) → meaning_of (e.Variable i k) ≡ meaning_at (FlatExpr-F.Variable i k)
   pub now_time : meaning_of e.NowTime ≡ meaning_at FlatExpr-F.NowTime
   pub now_real : meaning_of e.NowReal ≡ meaning_at FlatExpr-F.NowReal
-  pub unary : (op : Op1) (k : ValueType) (a : FlatExpr) → meaning_of (e.Unary op k a) ≡ meaning_at (FlatExpr-F.Unary op k (meaning_of a))
-  pub binary : (op : Op2) (k : ValueType) (a b : FlatExpr) → meaning_of (e.Binary op k a b) ≡ meaning_at (FlatExpr-F.Binary op k (meaning_of a) (meaning_of b))
+  pub unary : (op : UnaryOperator) (k : ValueType) (a : FlatExpr) → meaning_of (e.Unary op k a) ≡ meaning_at (FlatExpr-F.Unary op k (meaning_of a))
+  pub binary : (op : BinaryOperator) (k : ValueType) (a b : FlatExpr) → meaning_of (e.Binary op k a b) ≡ meaning_at (FlatExpr-F.Binary op k (meaning_of a) (meaning_of b))
   pub call : (f : Function) (a : FlatExpr) → meaning_of (e.Call f a) ≡ meaning_at (FlatExpr-F.Call f (meaning_of a))
   pub index : (a i : FlatExpr) (range : IndexRange) → meaning_of (e.Index a i range) ≡ meaning_at (FlatExpr-F.Index (meaning_of a) (meaning_of i) range)

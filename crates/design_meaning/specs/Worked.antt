@@ -1,5 +1,5 @@
 -- Small designs with their solutions.
-use Rattle.std.specs.Prelude.{◌≡◌, ℕ, ℤ, pos, List, [], ◌∷◌, Result, Ok, Err, true, false}
+use Rattle.std.specs.Prelude.{◌≡◌, pos, [], ◌∷◌, Ok, Err, true, false}
 use Rattle.ams_value.specs.declared.val.Val.TheVariants as val
 use Rattle.flat_expr.specs.declared.expr.FlatExpr.{FlatExpr}
 use Rattle.flat_expr.specs.declared.expr.FlatExpr.TheVariants as e
@@ -10,11 +10,9 @@ use Rattle.flat_design.specs.declared.objects.Equation.{Equation}
 use Rattle.flat_design.specs.declared.objects.Equation.TheVariants as equation
 use Rattle.flat_design.specs.declared.objects.Objects.{Objects}
 use Rattle.flat_design.specs.Lists.{no_objects}
-use Rattle.step_data.specs.declared.outcome.Cause.{Cause}
 use Rattle.step_data.specs.declared.outcome.Options.{Options}
-use Rattle.step_data.specs.declared.outcome.SetKind.TheVariants.{Quiescent, Discontinuity}
+use Rattle.step_data.specs.declared.outcome.SetKind.TheVariants.{Quiescent}
 use Rattle.step_data.specs.declared.breaks.Element.{Element}
-use Rattle.step_model.specs.System.{Landing}
 use Rattle.design_meaning.specs.Steps.{trial, settle}
 
 abbrev pub quantity : Quantity

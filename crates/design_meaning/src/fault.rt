@@ -2,6 +2,8 @@
 ghost use Rattle.std.specs.Prelude.{◌≡◌};
 ghost use Rattle.design_meaning.specs.Faults.{code_of};
 
+use message_codes::{DOMAIN_FAULT, RANGE, VALUE_DIVIDE_BY_ZERO, VALUE_OVERFLOW};
+
 /// The fault of an evaluation.
 #[derive(Clone, Copy, Debug, PartialEq, Eq)]
 pub enum EvalFault {
@@ -20,10 +22,10 @@ impl EvalFault {
         ensures { result ≡ code_of self }
     {
         match self {
-            EvalFault::Domain => 3,
-            EvalFault::Range => 30,
-            EvalFault::Overflow => 31,
-            EvalFault::DivideByZero => 32,
+            EvalFault::Domain => DOMAIN_FAULT,
+            EvalFault::Range => RANGE,
+            EvalFault::Overflow => VALUE_OVERFLOW,
+            EvalFault::DivideByZero => VALUE_DIVIDE_BY_ZERO,
         }
     }
 }

@@ -1,6 +1,7 @@
 //! Laws of the definitions. Each is proved, and does nothing when it runs.
 ghost use Rattle.design_meaning.specs.Laws.{SumsHaveTheBranchEnds, SetsDifferInAugmentation};
 ghost use Rattle.design_meaning.specs.Variants.{MeaningByVariants};
+ghost use Rattle.design_meaning.specs.Solutions.{SolutionsAreWithinTolerance};
 ghost use Rattle.design_meaning.specs.Worked.{WorkedSolutions};
 
 /// The value and the slopes of an expression follow from those of its operands.
@@ -19,6 +20,12 @@ pub fn sums_have_the_branch_ends()
 #[tactic(auto, using(crate::proofs::SetLaws::sets))]
 pub fn sets_differ_in_augmentation()
     ensures { SetsDifferInAugmentation }
+{}
+
+/// The residuals of a solution are within the tolerance, for every equation of the chosen branches.
+#[tactic(auto, using(crate::proofs::SolutionLaws::solutions))]
+pub fn solutions_are_within_tolerance()
+    ensures { SolutionsAreWithinTolerance }
 {}
 
 /// Solutions of small designs, worked by hand.

@@ -8,5 +8,6 @@ mod laws;
 
 pub use fault::EvalFault;
 pub use laws::{
-    meaning_by_variants, sets_differ_in_augmentation, sums_have_the_branch_ends, worked_solutions,
+    meaning_by_variants, sets_differ_in_augmentation, solutions_are_within_tolerance,
+    sums_have_the_branch_ends, worked_solutions,
 };

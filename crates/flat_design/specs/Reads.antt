@@ -1,5 +1,5 @@
 -- The frame: the signals that the equations read.
-use Rattle.std.specs.Prelude.{ℕ, Bool, ◌||◌, List, ◌++◌, length, filter, map}
+use Rattle.std.specs.Prelude.{Bool, ◌||◌, List, ◌++◌, length, filter, map}
 use Rattle.std.specs.List.{list_any, range_with_len}
 use Rattle.flat_expr.specs.declared.expr.SignalName.{SignalName}
 use Rattle.flat_expr.specs.declared.expr.SignalName.TheVariants.{Signal, Threshold}

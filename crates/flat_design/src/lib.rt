@@ -3,11 +3,15 @@
 #![tactic(auto)]
 
 mod flat;
+mod limits;
 mod names;
 mod objects;
 mod reads;
 
 pub use flat::{Flat, numbers_find_unknowns};
+pub use limits::{
+    FRAME_LIMIT, INSTANCE_LIMIT, PROCESS_LIMIT, SIGNAL_LIMIT, THRESHOLD_LIMIT, UNKNOWN_LIMIT,
+};
 pub use names::EquationName;
 pub use objects::{
     CaseArm, Choice, Enumeration, Equation, IfArm, Instance, Name, Node, Objects, Pair, PathStep,

@@ -1,6 +1,6 @@
 //! The objects, and the lists in which elaboration collects them.
 ghost use Rattle.std.specs.Prelude.{◌≡◌, ◌<◌, ◌≤◌, ◌++◌, ◌∷◌, [], length, position, nat_eq, IfOk, OnOk, OnErr};
-ghost use Rattle.flat_design.specs.Lists.{same_threshold, place_of_dot, with_dot, place_of_threshold, with_threshold};
+ghost use Rattle.flat_design.specs.Lists.{same_threshold, number_of_dot, with_dot, number_of_threshold, with_threshold};
 
 use ams_value::{Val, ValueType};
 use fix_core::Fix;
@@ -185,12 +185,12 @@ fn position_of_dot(dots: &[u32], quantity: u32) -> Option<usize>
 }
 
 /// The number of the dot of a quantity, or the number of dots where there is none.
-fn place_of_dot(dots: &[u32], quantity: u32) -> usize
-    ensures value { result ≡ place_of_dot quantity dots.now }
+fn number_of_dot(dots: &[u32], quantity: u32) -> usize
+    ensures value { result ≡ number_of_dot quantity dots.now }
     ensures bound { result ≤ length dots.now }
 {
     match position_of_dot(dots, quantity) {
-        Some(place) => place,
+        Some(number) => number,
         None => dots.len(),
     }
 }
@@ -202,12 +202,12 @@ fn position_of_threshold(thresholds: &[Threshold], threshold: &Threshold) -> Opt
 }
 
 /// The number of such a threshold, or the number of thresholds where there is none.
-fn place_of_threshold(thresholds: &[Threshold], threshold: &Threshold) -> usize
-    ensures value { result ≡ place_of_threshold threshold.now thresholds.now }
+fn number_of_threshold(thresholds: &[Threshold], threshold: &Threshold) -> usize
+    ensures value { result ≡ number_of_threshold threshold.now thresholds.now }
     ensures bound { result ≤ length thresholds.now }
 {
     match position_of_threshold(thresholds, threshold) {
-        Some(place) => place,
+        Some(number) => number,
         None => thresholds.len(),
     }
 }
@@ -331,28 +331,28 @@ impl Objects {
     /// The number of the dot of a quantity, which is added where there is none like it yet.
     pub fn add_dot(&mut self, quantity: u32) -> Result<u32, AllocError>
         requires { length self.old.dots < 4294967296 }
-        ensures number { IfOk result (λ number. number ≡ place_of_dot quantity self.old.dots) }
+        ensures number { IfOk result (λ number. number ≡ number_of_dot quantity self.old.dots) }
         ensures ok { OnOk result (self.new ≡ record self.old { dots = with_dot quantity self.old.dots }) }
         ensures err { OnErr result (self.new ≡ self.old) }
     {
-        let place = place_of_dot(self.dots.as_slice(), quantity);
-        if place == self.dots.len() {
+        let number = number_of_dot(self.dots.as_slice(), quantity);
+        if number == self.dots.len() {
             self.dots.push(quantity)?;
         }
-        Ok(place as u32)
+        Ok(number as u32)
     }
 
     /// The number of a threshold, which is added where there is none like it yet.
     pub fn add_threshold(&mut self, threshold: Threshold) -> Result<u32, AllocError>
         requires { length self.old.thresholds < 4294967296 }
-        ensures number { IfOk result (λ number. number ≡ place_of_threshold threshold self.old.thresholds) }
+        ensures number { IfOk result (λ number. number ≡ number_of_threshold threshold self.old.thresholds) }
         ensures ok { OnOk result (self.new ≡ record self.old { thresholds = with_threshold threshold self.old.thresholds }) }
         ensures err { OnErr result (self.new ≡ self.old) }
     {
-        let place = place_of_threshold(self.thresholds.as_slice(), &threshold);
-        if place == self.thresholds.len() {
+        let number = number_of_threshold(self.thresholds.as_slice(), &threshold);
+        if number == self.thresholds.len() {
             self.thresholds.push(threshold)?;
         }
-        Ok(place as u32)
+        Ok(number as u32)
     }
 }

@@ -1,6 +1,5 @@
 -- What a typed expression is of, and which signals it reads.
-use Rattle.std.specs.Prelude.{ℕ, Bool, true, false, ◌||◌, nat_eq}
-use Rattle.ams_value.specs.declared.val.Val.{Val}
+use Rattle.std.specs.Prelude.{Bool, true, false, ◌||◌, nat_eq}
 use Rattle.ams_value.specs.declared.value_type.ValueType.{ValueType}
 use Rattle.ams_value.specs.declared.value_type.ValueType.TheVariants as kind
 use Rattle.flat_expr.specs.declared.expr.SignalName.{SignalName}

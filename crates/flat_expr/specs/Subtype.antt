@@ -1,5 +1,5 @@
 -- Subtypes (IEEE 1076, 6.3).
-use Rattle.std.specs.Prelude.{ℤ, Bool, true, ◌&&◌, int_le}
+use Rattle.std.specs.Prelude.{Bool, true, ◌&&◌, int_le}
 use Rattle.ams_value.specs.declared.val.Val.{Val}
 use Rattle.ams_value.specs.declared.val.Val.TheVariants as val
 use Rattle.flat_expr.specs.declared.subtype.Constraint.{Constraint}

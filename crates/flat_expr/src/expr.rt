@@ -2,7 +2,7 @@
 ghost use Rattle.std.specs.Prelude.{◌≡◌, IfOk};
 ghost use Rattle.flat_expr.specs.Expr.{kind_of, reads_in};
 
-use ams_value::{Op1, Op2, Val, ValueType};
+use ams_value::{BinaryOperator, UnaryOperator, Val, ValueType};
 use sqlite_items::Boxed;
 use std::alloc::{AllocError, Global};
 
@@ -63,8 +63,8 @@ pub enum FlatExpr {
     /// `now` in an equation, in REAL seconds.
     NowReal,
     /// An operator, the type of its result, and its operand.
-    Unary(Op1, ValueType, Boxed<FlatExpr>),
-    Binary(Op2, ValueType, Boxed<FlatExpr>, Boxed<FlatExpr>),
+    Unary(UnaryOperator, ValueType, Boxed<FlatExpr>),
+    Binary(BinaryOperator, ValueType, Boxed<FlatExpr>, Boxed<FlatExpr>),
     Call(Function, Boxed<FlatExpr>),
     /// A bit vector, the index of an element, and the range of the vector's name.
     Index(Boxed<FlatExpr>, Boxed<FlatExpr>, IndexRange),
@@ -75,7 +75,7 @@ impl FlatExpr {
 
     pub fn unary(
         alloc: Global,
-        op: Op1,
+        op: UnaryOperator,
         gives: ValueType,
         operand: FlatExpr,
     ) -> Result<FlatExpr, AllocError>
@@ -86,7 +86,7 @@ impl FlatExpr {
 
     pub fn binary(
         alloc: Global,
-        op: Op2,
+        op: BinaryOperator,
         gives: ValueType,
         left: FlatExpr,
         right: FlatExpr,

@@ -1,18 +1,15 @@
 -- Where a threshold is crossed (own).
-use Rattle.std.specs.Prelude.{Bool, true, false, not, ◌||◌, ℕ, zero, suc, ◌+◌, ◌-◌, ◌/◌, nat_le, if◌then◌else◌, ℤ, pos, int_lt, List, [], ◌∷◌, slice_index_or, Result, Ok, Err}
-use Rattle.step_data.specs.declared.breaks.Above.{Above}
+use Rattle.std.specs.Prelude.{Bool, true, false, not, ◌||◌, ℕ, zero, suc, ◌+◌, ◌-◌, ◌/◌, nat_le, if◌then◌else◌, ℤ, List, [], ◌∷◌, Result, Ok, Err}
+use Rattle.step_data.specs.declared.breaks.ThresholdState.{ThresholdState}
 use Rattle.step_data.specs.declared.outcome.Cause.{Cause}
-use Rattle.step_data.specs.Same.{same_bool}
+use Rattle.ams_value.specs.Values.{same_truth}
+use Rattle.step_data.specs.Thresholds.{is_above}
 use Rattle.step_model.specs.System.{Landing}
 
--- a threshold is true exactly where its unknown is above its level
-abbrev pub is_above : List ℤ → Above → Bool
-is_above x a = int_lt a.level (slice_index_or x a.unknown (pos 0))
-
 -- some threshold is unlike its kept value
-abbrev pub differs : List ℤ → List Above → Bool
+abbrev pub differs : List ℤ → List ThresholdState → Bool
 differs x [] = false
-differs x (a ∷ rest) = not (same_bool (is_above x a) a.on) || differs x rest
+differs x (k ∷ rest) = not (same_truth (is_above x k.unknown k.level) k.on) || differs x rest
 
 -- between which times a crossing lies, with the point at the later one
 pub record Bounds : Type 0 where
@@ -34,9 +31,9 @@ abbrev pub upper_half : Bounds → Bounds
 upper_half b = record b { lo = middle b }
 
 -- by the step to the middle: the middle is the later bound where a threshold differs there, else the earlier one
-abbrev pub narrowed : List Above → Bounds → Result Landing Cause → Bounds
-narrowed aboves b (Err c) = upper_half b
-narrowed aboves b (Ok l) = if differs l.x aboves then lower_half b l.x else upper_half b
+abbrev pub narrowed : List ThresholdState → Bounds → Result Landing Cause → Bounds
+narrowed thresholds b (Err c) = upper_half b
+narrowed thresholds b (Ok l) = if differs l.x thresholds then lower_half b l.x else upper_half b
 
 -- The bounds of a crossing once they are near enough, by the steps to a time. Each turn takes one step, and no more
 -- turns are made than are left.
@@ -44,7 +41,7 @@ abbrev pub located_by : Bool → (Bounds → Bounds) → Bounds → Bounds
 located_by true further b = b
 located_by false further b = further b
 
-unfoldable pub located : ℕ → (ℕ → Result Landing Cause) → List Above → ℕ → Bounds → Bounds
-located xres step aboves zero b = b
-located xres step aboves (suc n) b =
-    located_by (is_near xres b) (λ c. located xres step aboves n (narrowed aboves c (step (middle c)))) b
+unfoldable pub located : ℕ → (ℕ → Result Landing Cause) → List ThresholdState → ℕ → Bounds → Bounds
+located xres step thresholds zero b = b
+located xres step thresholds (suc n) b =
+    located_by (is_near xres b) (λ c. located xres step thresholds n (narrowed thresholds c (step (middle c)))) b

@@ -32,18 +32,18 @@ reply_of (answers.Consumed b) = Consumed b
 
 -- which reply is awaited: none, before a work; that of a look; that of a consume, after which it goes on from the next
 -- tip, whoever made the attempt; or none any more, since a call found no memory
-pub data Stage : Type 0 where
-  Ready : Stage
-  Looking : Stage
-  Settling : Bool → Tip → Stage
-  Broken : Stage
+pub data Awaited : Type 0 where
+  Ready : Awaited
+  Looking : Awaited
+  Settling : Bool → Tip → Awaited
+  Broken : Awaited
 
 -- the works still to do and the end; the awaited reply; the tip and the frame that an ask names; and how many attempts
 -- were its own and how many cycles there were
 pub record Walk : Type 0 where
   pub works : List Work
   pub end : End
-  pub stage : Stage
+  pub awaited : Awaited
   pub tip : Tip
   pub frame : List Val
   pub own : ℕ
@@ -55,7 +55,7 @@ first_walk sys =
     record {
       works = (lockstep sys).works;
       end = (lockstep sys).end;
-      stage = Ready;
+      awaited = Ready;
       tip = (first_standing sys).tip;
       frame = (first_standing sys).frame;
       own = 0;
@@ -79,16 +79,16 @@ more n = min (n + 1) 18446744073709551615
 
 -- the next work, where no reply is awaited
 abbrev pub proceed_to : List Work → Walk → Move
-proceed_to [] w = record { walk = record w { stage = Ready }; says = says.Ended w.end; events = []; computed = 0 }
+proceed_to [] w = record { walk = record w { awaited = Ready }; says = says.Ended w.end; events = []; computed = 0 }
 proceed_to (Worked kind events renews standing ∷ works) w =
     record {
-      walk = record w { works = works; stage = Ready; tip = standing.tip; frame = standing.frame; cycles = cycles_at kind + w.cycles };
+      walk = record w { works = works; awaited = Ready; tip = standing.tip; frame = standing.frame; cycles = cycles_at kind + w.cycles };
       says = says.Ask (ask_of renews);
       events = events;
       computed = steps_at kind;
     }
 proceed_to (Tried tip frame until made crossing events ∷ works) w =
-    record { walk = record w { stage = Looking }; says = says.Ask (asks.Look until); events = []; computed = 0 }
+    record { walk = record w { awaited = Looking }; says = says.Ask (asks.Look until); events = []; computed = 0 }
 
 abbrev pub proceed : Walk → Move
 proceed w = proceed_to w.works w
@@ -99,7 +99,7 @@ own_first [] w = proceed w
 own_first (Worked kind events renews standing ∷ works) w = proceed w
 own_first (Tried tip frame until made crossing events ∷ works) w =
     record {
-      walk = record w { works = works; stage = if crossing then Ready else Settling true (next w.tip made); own = more w.own };
+      walk = record w { works = works; awaited = if crossing then Ready else Settling true (next w.tip made); own = more w.own };
       says = says.Ask (if crossing then asks.None else asks.Consume);
       events = events;
       computed = 1;
@@ -118,7 +118,7 @@ found_first (Tried tip frame until made crossing events ∷ works) w =
     if crossing || is_failed made.kind then led_by events (proceed (record w { works = works }))
     else
     record {
-      walk = record w { works = works; stage = Settling false (next w.tip made) };
+      walk = record w { works = works; awaited = Settling false (next w.tip made) };
       says = says.Ask asks.Consume;
       events = events;
       computed = 0;
@@ -129,11 +129,11 @@ has_none [] = true
 has_none (w ∷ works) = false
 
 -- after an own attempt that wasn't consumed the attempts begin anew, unless the run ends
-abbrev pub settled : Bool → Tip → Bool → Walk → Move
-settled own next consumed w =
+abbrev pub after_consume : Bool → Tip → Bool → Walk → Move
+after_consume own next consumed w =
     if own && (not consumed && not (has_none w.works))
-    then record { walk = record w { stage = Ready; tip = next }; says = says.Ask asks.Begin; events = []; computed = 0 }
-    else proceed (record w { stage = Ready; tip = next })
+    then record { walk = record w { awaited = Ready; tip = next }; says = says.Ask asks.Begin; events = []; computed = 0 }
+    else proceed (record w { awaited = Ready; tip = next })
 
 abbrev pub was_consumed : Reply → Bool
 was_consumed NoReply = false
@@ -147,15 +147,15 @@ looked (Here a) w = found_first w.works w
 looked Nothing w = own_first w.works w
 looked (Consumed b) w = own_first w.works w
 
-abbrev pub moved_at : Stage → Reply → Walk → Move
+abbrev pub moved_at : Awaited → Reply → Walk → Move
 moved_at Ready reply w = proceed w
 moved_at Looking reply w = looked reply w
-moved_at (Settling own next) reply w = settled own next (was_consumed reply) w
+moved_at (Settling own next) reply w = after_consume own next (was_consumed reply) w
 moved_at Broken reply w = proceed w
 
 -- the next move, by the reply to the last ask
 abbrev pub moved : Walk → Reply → Move
-moved w reply = moved_at w.stage reply w
+moved w reply = moved_at w.awaited reply w
 
 -- an attempt comes first
 abbrev pub StartsTried : List Work → Type 0
@@ -164,14 +164,14 @@ StartsTried (Worked kind events renews standing ∷ works) = ⊥
 StartsTried (Tried tip frame until made crossing events ∷ works) = Unit {0}
 
 -- where a look is awaited an attempt comes first
-abbrev pub LooksAhead : Stage → List Work → Type 0
+abbrev pub LooksAhead : Awaited → List Work → Type 0
 LooksAhead Ready works = Unit {0}
 LooksAhead Looking works = StartsTried works
 LooksAhead (Settling own next) works = Unit {0}
 LooksAhead Broken works = Unit {0}
 
 -- the replies that are awaited; an attempt that is found is the one of the tip and the frame
-abbrev pub Fits : (List Val → Tip → Attempt) → Walk → Stage → Reply → Type 0
+abbrev pub Fits : (List Val → Tip → Attempt) → Walk → Awaited → Reply → Type 0
 Fits attempt w Ready NoReply = Unit {0}
 Fits attempt w Ready (Here a) = ⊥
 Fits attempt w Ready Nothing = ⊥
@@ -192,15 +192,15 @@ EndsAll w (says.Ended e) = (w.works ≡ []) × (e ≡ w.end)
 EndsAll w (says.Ask ask) = Unit {0}
 
 -- what is awaited after an ask
-abbrev pub AsksFor : Ask → Stage → List Work → Type 0
-AsksFor asks.None stage works = stage ≡ Ready
-AsksFor asks.Begin stage works = stage ≡ Ready
-AsksFor (asks.Look until) stage works = (stage ≡ Looking) × StartsTried works
-AsksFor asks.Consume stage works = (own : Bool) × (next : Tip) × (stage ≡ Settling own next)
+abbrev pub AsksFor : Ask → Awaited → List Work → Type 0
+AsksFor asks.None awaited works = awaited ≡ Ready
+AsksFor asks.Begin awaited works = awaited ≡ Ready
+AsksFor (asks.Look until) awaited works = (awaited ≡ Looking) × StartsTried works
+AsksFor asks.Consume awaited works = (own : Bool) × (next : Tip) × (awaited ≡ Settling own next)
 
 abbrev pub Awaits : Walk → Moved → Type 0
-Awaits w (says.Ended e) = w.stage ≡ Ready
-Awaits w (says.Ask ask) = AsksFor ask w.stage w.works
+Awaits w (says.Ended e) = w.awaited ≡ Ready
+Awaits w (says.Ask ask) = AsksFor ask w.awaited w.works
 
 -- whether the reply holds an attempt
 abbrev pub here : Reply → ℕ
@@ -229,7 +229,7 @@ weight [] = 0
 weight (Worked kind events renews standing ∷ works) = weight works + 1
 weight (Tried tip frame until made crossing events ∷ works) = weight works + 3
 
-abbrev pub left_by : Stage → ℕ → ℕ
+abbrev pub left_by : Awaited → ℕ → ℕ
 left_by Ready n = n + 1
 left_by Looking n = n
 left_by (Settling own next) n = n + 2
@@ -237,7 +237,7 @@ left_by Broken n = n + 1
 
 -- the most moves to the end
 abbrev pub moves_left : Walk → ℕ
-moves_left w = left_by w.stage (weight w.works)
+moves_left w = left_by w.awaited (weight w.works)
 
 -- fewer moves than these are left, unless the end was told
 abbrev pub FallsBelow : ℕ → Walk → Moved → Type 0
@@ -272,7 +272,7 @@ begins_said (says.Ended e) = 0
 begins_said (says.Ask ask) = begins_asked ask
 
 -- an own attempt may still need a begin
-abbrev pub may_begin : Stage → ℕ
+abbrev pub may_begin : Awaited → ℕ
 may_begin Ready = 0
 may_begin Looking = 0
 may_begin (Settling own next) = if own then 1 else 0
@@ -281,4 +281,4 @@ may_begin Broken = 0
 -- there is a begin for each work that renews, and at most one more for each own attempt
 pub record Begins (w : Walk) (reply : Reply) (m : Move) : Type 0 where
   pub least : renewals_in w.works ≤ begins_said m.says + renewals_in m.walk.works
-  pub most : begins_said m.says + renewals_in m.walk.works + may_begin m.walk.stage ≤ renewals_in w.works + may_begin w.stage + nothing reply
+  pub most : begins_said m.says + renewals_in m.walk.works + may_begin m.walk.awaited ≤ renewals_in w.works + may_begin w.awaited + nothing reply

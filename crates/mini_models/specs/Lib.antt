@@ -1,4 +1,5 @@
 pub mod Mini
 pub mod Ramp
 pub mod Row
+pub mod Solver
 pub mod Switch

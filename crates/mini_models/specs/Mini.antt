@@ -2,16 +2,18 @@
 use Rattle.std.specs.Prelude.{◌≡◌, ℕ, ◌==◌, Bool, true, false, ◌||◌, nat_le, if◌then◌else◌, ℤ, pos, List, [], ◌∷◌, ◌++◌, Option, Some, None, Result, Ok, Err}
 use Rattle.ams_value.specs.declared.val.Val.{Val}
 use Rattle.ams_value.specs.declared.val.Val.TheVariants as vals
+use Rattle.message_codes.specs.Codes as codes
 use Rattle.step_data.specs.declared.tip.Tip.{Tip}
+use Rattle.step_data.specs.declared.trans.Trans.{Trans}
 use Rattle.step_data.specs.declared.event.Event.{Event}
 use Rattle.step_data.specs.declared.event.Event.TheVariants.{Domain, Signal}
 use Rattle.step_data.specs.declared.outcome.Cause.{Cause}
 use Rattle.step_data.specs.declared.outcome.ChooseKind.{ChooseKind}
 use Rattle.step_data.specs.declared.outcome.SetKind.{SetKind}
 use Rattle.step_data.specs.declared.breaks.Element.{Element}
-use Rattle.step_data.specs.declared.breaks.Above.{Above}
+use Rattle.step_data.specs.declared.breaks.ThresholdState.{ThresholdState}
 use Rattle.step_data.specs.declared.outcome.Ran.TheVariants.{Done, Refused}
-use Rattle.step_model.specs.System.{System, Digital, Cycle, Landing}
+use Rattle.step_model.specs.System.{System, Digital, CycleOutcome, Landing}
 use Rattle.mini_models.specs.declared.plan.Plan.{Plan}
 use Rattle.mini_models.specs.declared.plan.Change.{Change}
 
@@ -28,16 +30,16 @@ abbrev pub landing : Plan → List Val → Landing
 landing plan frame = record { x = level plan frame ∷ []; err = 0 }
 
 abbrev pub too_long : Cause
-too_long = record { code = 63; column = 0 }
+too_long = record { code = codes.error_too_large; column = 0 }
 
 -- a step up to the longest one is accepted
 abbrev pub step : Plan → List Val → Tip → ℕ → Result Landing Cause
 step plan frame tip s =
     if nat_le s plan.longest then Ok (landing plan frame) else Err too_long
 
-abbrev pub queue_of : Option Change → List (ℕ × Val)
+abbrev pub queue_of : Option Change → List Trans
 queue_of None = []
-queue_of (Some c) = (c.at, vals.Bool c.value) ∷ []
+queue_of (Some c) = record { at = c.at; value = vals.Bool c.value } ∷ []
 
 abbrev pub digital_of : ℕ → Bool → Bool → Option Change → Digital
 digital_of time timed value pending =
@@ -52,13 +54,13 @@ digital_of time timed value pending =
       broken = [];
     }
 
-abbrev pub first_queue : List (List (ℕ × Val)) → List (ℕ × Val)
+abbrev pub first_queue : List (List Trans) → List Trans
 first_queue [] = []
 first_queue (queue ∷ queues) = queue
 
-abbrev pub first_time : List (ℕ × Val) → Option ℕ
+abbrev pub first_time : List Trans → Option ℕ
 first_time [] = None
-first_time (next ∷ later) = Some next.0
+first_time (next ∷ later) = Some next.at
 
 abbrev pub domain_events : Bool → ℕ → ℕ → List Event
 domain_events false t n = []
@@ -69,17 +71,17 @@ is_at None t = false
 is_at (Some at) t = at == t
 
 -- the signal takes the value of a transaction that stands at the time
-abbrev pub change_events : List (ℕ × Val) → ℕ → ℕ → List Event
+abbrev pub change_events : List Trans → ℕ → ℕ → List Event
 change_events [] t n = []
-change_events (next ∷ later) t n = if next.0 == t then Signal t n 0 next.1 ∷ [] else []
+change_events (next ∷ later) t n = if next.at == t then Signal t n 0 next.value ∷ [] else []
 
-abbrev pub changed_signals : List (ℕ × Val) → ℕ → List Val → List Val
+abbrev pub changed_signals : List Trans → ℕ → List Val → List Val
 changed_signals [] t old = old
-changed_signals (next ∷ later) t old = if next.0 == t then next.1 ∷ [] else old
+changed_signals (next ∷ later) t old = if next.at == t then next.value ∷ [] else old
 
-abbrev pub changed_queue : List (ℕ × Val) → ℕ → List (ℕ × Val)
+abbrev pub changed_queue : List Trans → ℕ → List Trans
 changed_queue [] t = []
-changed_queue (next ∷ later) t = if next.0 == t then later else next ∷ later
+changed_queue (next ∷ later) t = if next.at == t then later else next ∷ later
 
 abbrev pub changed : Digital → ℕ → Bool → Digital
 changed d t to_time =
@@ -90,9 +92,9 @@ changed d t to_time =
       queues = changed_queue (first_queue d.queues) t ∷ [];
     }
 
-abbrev pub cycle_by : Bool → Digital → ℕ → ℕ → Bool → Cycle
+abbrev pub cycle_by : Bool → Digital → ℕ → ℕ → Bool → CycleOutcome
 cycle_by true d t n to_time =
-    record { digital = d; events = domain_events to_time t n ++ change_events (first_queue d.queues) t n; ran = Refused (record { code = 73; detail = Some 0 }) }
+    record { digital = d; events = domain_events to_time t n ++ change_events (first_queue d.queues) t n; ran = Refused (record { code = codes.failure; detail = Some 0 }) }
 cycle_by false d t n to_time =
     record {
       digital = changed d t to_time;
@@ -111,16 +113,16 @@ settled plan frame t set elements x = Ok (level plan frame ∷ [])
 abbrev pub chosen : List Val → ℕ → ChooseKind → List ℤ → Result (List ℕ) Cause
 chosen frame t kind x = Ok []
 
-abbrev pub started : Plan → List ℤ → Cycle
+abbrev pub started : Plan → List ℤ → CycleOutcome
 started plan x = record { digital = digital_of 0 false false plan.change; events = []; ran = Done false }
 
-abbrev pub cycled : Plan → Digital → ℕ → ℕ → List ℤ → Bool → Cycle
+abbrev pub cycled : Plan → Digital → ℕ → ℕ → List ℤ → Bool → CycleOutcome
 cycled plan d t n x to_time = cycle_by (is_at plan.failure t) d t n to_time
 
 abbrev pub next_time : Digital → Option ℕ
 next_time d = first_time (first_queue d.queues)
 
-abbrev pub no_thresholds : Digital → List Above
+abbrev pub no_thresholds : Digital → List ThresholdState
 no_thresholds d = []
 
 abbrev pub no_elements : Digital → List Element
@@ -138,7 +140,7 @@ system_of plan deltas cycles tries =
       choices = 0;
       is_frame = is_one;
       is_element = λ e. true;
-      is_event = λ e. true;
+      is_printable = λ v. true;
       initial = pos 0 ∷ [];
       trial = step plan;
       settle = settled plan;
@@ -170,7 +172,7 @@ pub record SolvesAs (sys : System) (plan : Plan) : Type 0 where
 pub record RunsAs (sys : System) (plan : Plan) : Type 0 where
   pub frame_len : sys.frame_len ≡ 1
   pub is_frame : sys.is_frame ≡ is_one
-  pub is_event : (e : Event) → sys.is_event e ≡ true
+  pub is_printable : (v : Val) → sys.is_printable v ≡ true
   pub start : sys.start ≡ started plan
   pub cycle : sys.cycle ≡ cycled plan
   pub next_time : sys.next_time ≡ next_time

@@ -5,15 +5,16 @@ use Rattle.ams_value.specs.declared.val.Val.{Val}
 use Rattle.ams_value.specs.declared.val.Val.TheVariants.{Bit}
 use Rattle.step_data.specs.declared.tip.Tip.{Tip}
 use Rattle.step_data.specs.declared.breaks.Element.{Element}
-use Rattle.step_data.specs.declared.breaks.Above.{Above}
+use Rattle.step_data.specs.declared.breaks.ThresholdState.{ThresholdState}
 use Rattle.step_data.specs.declared.event.Event.{Event}
 use Rattle.step_data.specs.declared.event.Event.TheVariants.{Solved, Domain, Cross, Signal, Broke}
 use Rattle.step_data.specs.declared.outcome.Cause.{Cause}
 use Rattle.step_data.specs.declared.outcome.Options.{Options}
 use Rattle.step_data.specs.declared.outcome.Ran.TheVariants.{Done}
-use Rattle.step_data.specs.Same.{same_bool}
-use Rattle.step_model.specs.System.{System, Digital, Cycle, Landing}
-use Rattle.lockstep_model.specs.Crossing.{is_above}
+use Rattle.step_data.specs.declared.trans.Trans.{Trans}
+use Rattle.step_model.specs.System.{System, Digital, CycleOutcome, Landing}
+use Rattle.ams_value.specs.Values.{same_truth}
+use Rattle.step_data.specs.Thresholds.{is_above}
 use Rattle.mini_models.specs.Mini.{domain_events, first_queue, first_time}
 
 -- the quantity and its derivative, one million a second
@@ -31,8 +32,12 @@ risen frame tip s = Ok (record { x = values (first tip.x +ℤ pos (s * 1000000))
 abbrev pub element : Element
 element = record { selector = 0; quantity = 0; value = pos 0 }
 
-abbrev pub threshold : Bool → Above
-threshold on = record { unknown = 0; level = pos 500000000000; on = on }
+-- 0.5
+abbrev pub level : ℤ
+level = pos 500000000000
+
+abbrev pub threshold : Bool → ThresholdState
+threshold on = record { unknown = 0; level = level; on = on }
 
 abbrev pub is_on : List Bool → Bool
 is_on [] = false
@@ -42,7 +47,7 @@ abbrev pub is_bit : List Val → Bool
 is_bit (Bit b ∷ rest) = b
 is_bit _ = false
 
-abbrev pub digital_of : ℕ → Bool → Bool → Bool → List (ℕ × Val) → List Element → Digital
+abbrev pub digital_of : ℕ → Bool → Bool → Bool → List Trans → List Element → Digital
 digital_of time timed on bit pending elements =
     record {
       time = time;
@@ -56,9 +61,9 @@ digital_of time timed on bit pending elements =
     }
 
 -- the signal takes the value of a transaction that stands at the time
-abbrev pub bit_after : List (ℕ × Val) → ℕ → Bool → Bool
+abbrev pub bit_after : List Trans → ℕ → Bool → Bool
 bit_after [] t old = old
-bit_after (next ∷ later) t old = if next.0 == t then is_bit (next.1 ∷ []) else old
+bit_after (next ∷ later) t old = if next.at == t then is_bit (next.value ∷ []) else old
 
 abbrev pub cross_events : Bool → ℕ → ℕ → Bool → List Event
 cross_events true t n on = []
@@ -69,21 +74,21 @@ bit_events true t n bit = []
 bit_events false t n bit = Signal t n 0 (Bit bit) ∷ []
 
 -- where the threshold changed the process assigns it to the signal
-abbrev pub queue_after : Bool → ℕ → Bool → List (ℕ × Val)
+abbrev pub queue_after : Bool → ℕ → Bool → List Trans
 queue_after true t on = []
-queue_after false t on = (t, Bit on) ∷ []
+queue_after false t on = record { at = t; value = Bit on } ∷ []
 
-abbrev pub cycled_by : Bool → Bool → Digital → ℕ → ℕ → Bool → Cycle
+abbrev pub cycled_by : Bool → Bool → Digital → ℕ → ℕ → Bool → CycleOutcome
 cycled_by on bit d t n to_time =
     record {
-      digital = digital_of t (d.timed || to_time) on bit (queue_after (same_bool on (is_on d.kept)) t on) [];
-      events = domain_events to_time t n ++ cross_events (same_bool on (is_on d.kept)) t n on ++ bit_events (same_bool bit (is_bit d.signals)) t n bit;
+      digital = digital_of t (d.timed || to_time) on bit (queue_after (same_truth on (is_on d.kept)) t on) [];
+      events = domain_events to_time t n ++ cross_events (same_truth on (is_on d.kept)) t n on ++ bit_events (same_truth bit (is_bit d.signals)) t n bit;
       ran = Done false;
     }
 
-abbrev pub cycled : Digital → ℕ → ℕ → List ℤ → Bool → Cycle
+abbrev pub cycled : Digital → ℕ → ℕ → List ℤ → Bool → CycleOutcome
 cycled d t n x to_time =
-    cycled_by (is_above x (threshold false)) (bit_after (first_queue d.queues) t (is_bit d.signals)) d t n to_time
+    cycled_by (is_above x 0 level) (bit_after (first_queue d.queues) t (is_bit d.signals)) d t n to_time
 
 abbrev pub ramp_options : Options
 ramp_options =
@@ -106,14 +111,14 @@ ramp_system =
       choices = 0;
       is_frame = λ frame. true;
       is_element = λ e. true;
-      is_event = λ e. true;
+      is_printable = λ v. true;
       initial = pos 0 ∷ pos 0 ∷ [];
       trial = risen;
       settle = λ frame t set elements x. Ok (values (pos 0));
       choose = λ frame t kind x. Ok [];
       start = λ x.
           record {
-            digital = digital_of 0 false false false ((0, Bit false) ∷ []) (element ∷ []);
+            digital = digital_of 0 false false false (record { at = 0; value = Bit false } ∷ []) (element ∷ []);
             events = Broke 0 0 (element ∷ []) ∷ [];
             ran = Done true;
           };

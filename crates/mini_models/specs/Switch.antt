@@ -1,9 +1,9 @@
 -- What holds of a kernel with one signal at every moment.
 use Rattle.std.specs.Prelude.{◌≡◌, ℕ, ◌≤◌, List, [], Option, Some, None}
 use Rattle.step_data.specs.declared.breaks.Element.{Element}
-use Rattle.step_data.specs.declared.breaks.Above.{Above}
+use Rattle.step_data.specs.declared.breaks.ThresholdState.{ThresholdState}
 use Rattle.step_model.specs.System.{System}
-use Rattle.step_model.specs.declared.stage.Stage.{Stage}
+use Rattle.step_model.specs.declared.kernel_stage.KernelStage.{KernelStage}
 use Rattle.mini_models.specs.declared.plan.Plan.{Plan}
 use Rattle.mini_models.specs.declared.plan.Change.{Change}
 use Rattle.mini_models.specs.Mini.{RunsAs}
@@ -13,7 +13,7 @@ abbrev pub IsAhead : ℕ → Option Change → Type 0
 IsAhead time None = Unit {0}
 IsAhead time (Some c) = time ≤ c.at
 
-pub record IsSound (sys : System) (plan : Plan) (stage : Stage) (time : ℕ) (pending : Option Change) (elements : List Element) (thresholds : List Above) : Type 0 where
+pub record IsSound (sys : System) (plan : Plan) (stage : KernelStage) (time : ℕ) (pending : Option Change) (elements : List Element) (thresholds : List ThresholdState) : Type 0 where
   pub runs : RunsAs sys plan
   pub ahead : IsAhead time pending
   pub elements_none : elements ≡ []

@@ -17,11 +17,11 @@ fn start_and_cycle<D: Design>(
     plan: &Plan,
     out: &mut EventList,
 ) -> Result<Ran, AllocError>
-    requires solves { SolvesAs D.system plan.now }
-    requires runs { RunsAs D.system plan.now }
+    requires solves { SolvesAs (D.system 0) plan.now }
+    requires runs { RunsAs (D.system 0) plan.now }
     ensures events { OnOk result (out.new ≡ out.old ++ called_events plan.now) }
 {
-    let stepper: Level<D> = Level::new(plan);
+    let stepper: Level<D> = Level::new(plan, 0);
     let mut x = Point::new(alloc, stepper.unknowns())?;
     stepper.initial(&mut x);
     let mut kernel: Switch<D> = Switch::new(alloc, plan);

@@ -1,27 +1,28 @@
 ghost use Rattle.std.specs.Prelude.{◌≡◌, ◌≢◌, ◌≤◌, ◌++◌, ◌∷◌, [], if◌then◌else◌, OnOk, OnErr, IfSome};
-ghost use Rattle.step_model.specs.declared.stage.Stage.TheVariants.{Unstarted, Going};
+ghost use Rattle.step_model.specs.declared.kernel_stage.KernelStage.TheVariants.{Unstarted, Going};
 ghost use Rattle.step_model.specs.Kernel.{AddsFront};
 ghost use Rattle.mini_models.specs.Mini.{RunsAs, is_at, domain_events, change_events, changed, first_queue, next_time};
 
 use crate::plan::{Change, Plan};
 use ams_value::Val;
 use fix_core::Tick;
+use message_codes::FAILURE;
 use std::alloc::{AllocError, Global};
 use std::marker::{Model, PhantomData};
-use step_data::{AboveList, BreakList, Event, EventList, Frame, Point, Ran, Refusal};
-use step_model::{Design, Kernel, Stage};
+use step_data::{BreakList, Event, EventList, Frame, Point, Ran, Refusal, ThresholdList};
+use step_model::{Design, Kernel, KernelStage};
 
 /// A kernel with one signal that changes once.
 #[derive(Drop)]
 pub struct Switch<D: Design> {
     plan: Plan,
-    stage: Stage,
+    stage: KernelStage,
     time: Tick,
     timed: bool,
     value: bool,
     pending: Option<Change>,
     elements: BreakList,
-    thresholds: AboveList,
+    thresholds: ThresholdList,
     design: PhantomData<D>,
 }
 
@@ -35,7 +36,7 @@ impl<D: Design> Model for Switch<D> {
 
     ghost view = { λ a. record { stage = a.stage; digital = digital_of a.time a.timed a.value a.pending } };
 
-    ghost invariant = { λ a. IsSound D.system a.plan a.stage a.time a.pending a.elements a.thresholds };
+    ghost invariant = { λ a. IsSound (D.system 0) a.plan a.stage a.time a.pending a.elements a.thresholds };
 }
 
 impl Plan {
@@ -63,18 +64,18 @@ fn give(out: &mut EventList, wanted: bool, event: Event) -> Result<(), AllocErro
 impl<D: Design> Switch<D> {
     /// A kernel that isn't started.
     pub fn new(alloc: Global, plan: &Plan) -> Switch<D>
-        requires { RunsAs D.system plan.now }
+        requires { RunsAs (D.system 0) plan.now }
         ensures { result.stage ≡ Unstarted }
     {
         Switch {
             plan: *plan,
-            stage: Stage::Unstarted,
+            stage: KernelStage::Unstarted,
             time: Tick::new(0).unwrap(),
             timed: false,
             value: false,
             pending: None,
             elements: BreakList::new(alloc),
-            thresholds: AboveList::new(alloc),
+            thresholds: ThresholdList::new(alloc),
             design: PhantomData,
         }
     }
@@ -128,7 +129,7 @@ impl<D: Design> Kernel<D> for Switch<D> {
     ghost state = { λ state. state };
 
     fn start(&mut self, _x: &Point, _out: &mut EventList) -> Result<Ran, AllocError> {
-        self.stage = Stage::Going;
+        self.stage = KernelStage::Going;
         self.time = Tick::new(0).unwrap();
         self.timed = false;
         self.value = false;
@@ -145,20 +146,20 @@ impl<D: Design> Kernel<D> for Switch<D> {
         out: &mut EventList,
     ) -> Result<Ran, AllocError> {
         match self.stage {
-            Stage::Ended(refusal) => return Ok(Ran::Refused(refusal)),
-            Stage::Lost => return Err(AllocError),
-            Stage::Unstarted | Stage::Going => {}
+            KernelStage::Ended(refusal) => return Ok(Ran::Refused(refusal)),
+            KernelStage::Lost => return Err(AllocError),
+            KernelStage::Unstarted | KernelStage::Going => {}
         }
         if self.give_events(t, n, to_time, out).is_err() {
-            self.stage = Stage::Lost;
+            self.stage = KernelStage::Lost;
             return Err(AllocError);
         }
         if self.plan.fails(t) {
             let refusal = Refusal {
-                code: 73,
+                code: FAILURE,
                 detail: Some(0),
             };
-            self.stage = Stage::Ended(refusal);
+            self.stage = KernelStage::Ended(refusal);
             return Ok(Ran::Refused(refusal));
         }
         self.advance(t, to_time);
@@ -178,7 +179,7 @@ impl<D: Design> Kernel<D> for Switch<D> {
         &self.elements
     }
 
-    fn aboves(&self) -> &AboveList {
+    fn thresholds(&self) -> &ThresholdList {
         &self.thresholds
     }
 }

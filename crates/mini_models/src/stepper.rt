@@ -1,10 +1,12 @@
 ghost use Rattle.std.specs.Prelude.{◌≡◌, ◌≤◌, length};
 ghost use Rattle.step_model.specs.System.{attempt_by};
 ghost use Rattle.mini_models.specs.Mini.{SolvesAs, level, step};
+ghost use Rattle.mini_models.specs.Solver.{count_of, count-bounded};
 
 use crate::plan::Plan;
 use ams_value::Val;
 use fix_core::{Fix, Tick};
+use message_codes::ERROR_TOO_LARGE;
 use std::marker::{Model, PhantomData};
 use step_data::{
     Attempt, BreakList, Cause, Choices, ChooseKind, Frame, Kind, Point, SetKind, Settled, Tip,
@@ -16,26 +18,26 @@ use step_model::{Design, Stepper, accept, refuse};
 #[derive(Drop)]
 pub struct Level<D: Design> {
     plan: Plan,
+    part: u32,
     made: u64,
     design: PhantomData<D>,
 }
 
 impl<D: Design> Model for Level<D> {
-    ghost use Rattle.std.specs.Prelude.{ℕ};
+    ghost use Rattle.mini_models.specs.Solver.{Solver};
 
-    // how many trials and attempts it has made
-    ghost Value = { ℕ };
+    ghost Value = { Solver };
 
     ghost use Rattle.mini_models.specs.Mini.{SolvesAs};
 
-    ghost view = { λ a. a.made };
+    ghost view = { λ a. record { part = a.part; made = a.made } };
 
-    ghost invariant = { λ a. SolvesAs D.system a.plan };
+    ghost invariant = { λ a. SolvesAs (D.system a.part) a.plan };
 }
 
 /// The step was longer than the longest one.
 const TOO_LONG: Cause = Cause {
-    code: 63,
+    code: ERROR_TOO_LARGE,
     column: 0,
 };
 
@@ -68,13 +70,14 @@ impl Plan {
 }
 
 impl<D: Design> Level<D> {
-    /// A solver that has made nothing yet.
-    pub fn new(plan: &Plan) -> Level<D>
-        requires { SolvesAs D.system plan.now }
-        ensures { result ≡ 0 }
+    /// A solver of a part of the design that has made nothing yet.
+    pub fn new(plan: &Plan, part: u32) -> Level<D>
+        requires { SolvesAs (D.system part) plan.now }
+        ensures { result ≡ record { part = part; made = 0 } }
     {
         Level {
             plan: *plan,
+            part,
             made: 0,
             design: PhantomData,
         }
@@ -82,7 +85,9 @@ impl<D: Design> Level<D> {
 }
 
 impl<D: Design> Stepper<D> for Level<D> {
-    ghost count = { λ made. made };
+    ghost part = { λ solver. solver.part };
+
+    ghost count = { count_of };
 
     fn unknowns(&self) -> usize {
         let _plan = &self.plan;
@@ -147,4 +152,6 @@ impl<D: Design> Stepper<D> for Level<D> {
         let _plan = &self.plan;
         Settled::Good
     }
+
+    ghost bounded = { count-bounded };
 }

@@ -3,8 +3,8 @@ use ams_value::Val;
 use fix_core::{Fix, Tick};
 use std::test::Fail;
 use step_data::{
-    Above, AboveList, Attempt, BreakList, Choices, Element, Event, EventList, Frame, Options, Ran,
-    Text, Tip,
+    Attempt, BreakList, Choices, Element, Event, EventList, Frame, Options, Ran, Text,
+    ThresholdList, ThresholdState, Tip,
 };
 
 #[test]
@@ -50,8 +50,8 @@ fn lists_grow(rt: HostRuntime) -> Result<(), Fail> {
     let mut breaks = BreakList::new(rt.alloc());
     breaks.push(element(1))?;
     breaks.push(element(2))?;
-    let mut thresholds = AboveList::new(rt.alloc());
-    thresholds.push(Above {
+    let mut thresholds = ThresholdList::new(rt.alloc());
+    thresholds.push(ThresholdState {
         unknown: 0,
         level: Fix::exactly(5),
         on: false,

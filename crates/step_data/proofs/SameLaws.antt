@@ -8,19 +8,21 @@ use Rattle.ams_value.specs.declared.val.Val.{Val}
 use Rattle.ams_value.specs.declared.val.Val.TheVariants as vals
 use Rattle.ams_value.specs.contracts.val.ValPartialEq.TheImpl as derived
 use Rattle.step_data.specs.declared.tip.Tip.{Tip}
-use Rattle.step_data.specs.Same.{same_bool, same_value, all_same, same_point, same_frame, same_tip}
+use Rattle.ams_value.specs.Values.{equals, same_truth}
+use Rattle.step_data.specs.Same.{all_same, same_point, same_frame, same_tip}
 
-pub bools_decide : (a b : Bool) → Decides (same_bool a b) (a ≡ b)
+pub bools_decide : (a b : Bool) → Decides (same_truth a b) (a ≡ b)
 bools_decide true true = (λ e. refl, λ e. refl)
 bools_decide true false = (λ e. cc, λ e. cc)
 bools_decide false true = (λ e. cc, λ e. cc)
 bools_decide false false = (λ e. refl, λ e. refl)
 
-pub values_decide : (a b : Val) → Decides (same_value a b) (a ≡ b)
+pub values_decide : (a b : Val) → Decides (equals a b) (a ≡ b)
+unfolding equals
 values_decide (vals.Bool a) (vals.Bool b) =
-    Decides-like (same_bool a b) (λ e. ap vals.Bool e) (λ e. cc) (bools_decide a b)
+    Decides-like (same_truth a b) (λ e. ap vals.Bool e) (λ e. cc) (bools_decide a b)
 values_decide (vals.Bit a) (vals.Bit b) =
-    Decides-like (same_bool a b) (λ e. ap vals.Bit e) (λ e. cc) (bools_decide a b)
+    Decides-like (same_truth a b) (λ e. ap vals.Bit e) (λ e. cc) (bools_decide a b)
 values_decide (vals.Int a) (vals.Int b) =
     Decides-like (int_eq a b) (λ e. ap vals.Int e) (λ e. cc) (Decides-int_eq a b)
 values_decide (vals.Real a) (vals.Real b) =
@@ -49,7 +51,7 @@ pub points_decide : (a b : List ℤ) → Decides (same_point a b) (a ≡ b)
 points_decide = all_decide int_eq Decides-int_eq
 
 pub frames_decide : (a b : List Val) → Decides (same_frame a b) (a ≡ b)
-frames_decide = all_decide same_value values_decide
+frames_decide = all_decide equals values_decide
 
 abbrev made : ℕ → ℕ → Bool → List ℤ → Tip
 made t h f x = record { t = t; x = x; h = h; fresh = f }
@@ -62,9 +64,9 @@ pub tips_decide : (a b : Tip) → Decides (same_tip a b) (a ≡ b)
 tips_decide a b =
     Decides-like (same_tip a b) (λ e. tips_agree a.t b.t a.h b.h a.fresh b.fresh a.x b.x e.0 e.1.0 e.1.1.0 e.1.1.1)
     (λ e. (ap (λ c. c.t) e, (ap (λ c. c.h) e, (ap (λ c. c.fresh) e, ap (λ c. c.x) e))))
-    (Decides-and (a.t == b.t) (a.h == b.h && (same_bool a.fresh b.fresh && same_point a.x b.x)) (Decides-eqb a.t b.t)
-    (Decides-and (a.h == b.h) (same_bool a.fresh b.fresh && same_point a.x b.x) (Decides-eqb a.h b.h)
-    (Decides-and (same_bool a.fresh b.fresh) (same_point a.x b.x) (bools_decide a.fresh b.fresh) (points_decide a.x b.x))))
+    (Decides-and (a.t == b.t) (a.h == b.h && (same_truth a.fresh b.fresh && same_point a.x b.x)) (Decides-eqb a.t b.t)
+    (Decides-and (a.h == b.h) (same_truth a.fresh b.fresh && same_point a.x b.x) (Decides-eqb a.h b.h)
+    (Decides-and (same_truth a.fresh b.fresh) (same_point a.x b.x) (bools_decide a.fresh b.fresh) (points_decide a.x b.x))))
 
 -- the derived `==` of values
 pub derived_decides : (a b : Val) → Decides (derived.eq-value.it a b) (a ≡ b)

@@ -13,9 +13,9 @@ pub struct Element {
     pub value: Fix,
 }
 
-/// A threshold `q'above(level)` with the value that it has.
+/// A threshold `q'above(level)` with the value that it has (IEEE 1076.1, attribute 'ABOVE).
 #[derive(Clone, Copy, PartialEq, Eq)]
-pub struct Above {
+pub struct ThresholdState {
     pub unknown: u32,
     pub level: Fix,
     pub on: bool,
@@ -94,31 +94,31 @@ impl BreakList {
 
 /// The thresholds by their number.
 #[derive(Drop)]
-pub struct AboveList {
-    thresholds: Vec<Above>,
+pub struct ThresholdList {
+    thresholds: Vec<ThresholdState>,
 }
 
-impl Model for AboveList {
+impl Model for ThresholdList {
     ghost use Rattle.std.specs.Prelude.{List};
-    ghost use Rattle.step_data.specs.declared.breaks.Above.{Above};
+    ghost use Rattle.step_data.specs.declared.breaks.ThresholdState.{ThresholdState};
 
-    ghost Value = { List Above };
+    ghost Value = { List ThresholdState };
 
     ghost view = { λ a. a.thresholds.items };
 }
 
-impl AboveList {
+impl ThresholdList {
     /// An empty list.
-    pub fn new(alloc: Global) -> AboveList
+    pub fn new(alloc: Global) -> ThresholdList
         ensures { result ≡ [] }
     {
-        AboveList {
+        ThresholdList {
             thresholds: Vec::new(alloc),
         }
     }
 
     /// Adds a threshold at the end; where no memory is found the list stays as it is.
-    pub fn push(&mut self, threshold: Above) -> Result<(), AllocError>
+    pub fn push(&mut self, threshold: ThresholdState) -> Result<(), AllocError>
         ensures ok { OnOk result (self.new ≡ self.old ++ threshold ∷ []) }
         ensures err { OnErr result (self.new ≡ self.old) }
     {
@@ -133,7 +133,7 @@ impl AboveList {
     }
 
     /// The threshold of a number.
-    pub fn get(&self, k: usize) -> Above
+    pub fn get(&self, k: usize) -> ThresholdState
         requires { k < length self.now }
         ensures { slice_get self.now k ≡ Some result }
     {
@@ -141,7 +141,7 @@ impl AboveList {
     }
 
     /// Replaces the threshold of a number.
-    pub fn set(&mut self, k: usize, threshold: Above)
+    pub fn set(&mut self, k: usize, threshold: ThresholdState)
         requires { k < length self.old }
         ensures { self.new ≡ slice_set self.old k threshold }
     {
@@ -149,7 +149,7 @@ impl AboveList {
     }
 
     /// The thresholds.
-    pub fn as_slice(&self) -> &[Above]
+    pub fn as_slice(&self) -> &[ThresholdState]
         ensures { result.now ≡ self.now }
     {
         self.thresholds.as_slice()

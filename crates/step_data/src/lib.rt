@@ -7,10 +7,12 @@ pub mod event;
 pub mod frame;
 pub mod outcome;
 pub mod tip;
+pub mod trans;
 
 pub use ams_point::Point;
-pub use breaks::{Above, AboveList, BreakList, Element};
+pub use breaks::{BreakList, Element, ThresholdList, ThresholdState};
 pub use event::{Event, EventList, Text};
 pub use frame::{Choices, Frame};
 pub use outcome::{Cause, ChooseKind, End, Kind, Options, Ran, Refusal, SetKind, Settled, Trial};
 pub use tip::{Attempt, Tip};
+pub use trans::Trans;

@@ -1,4 +1,5 @@
 pub mod Answers
 pub mod Kernel
+pub mod Printing
 pub mod StepLaws
 pub mod System

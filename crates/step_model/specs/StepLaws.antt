@@ -8,6 +8,8 @@ use Rattle.step_data.specs.declared.tip.Attempt.{Attempt}
 use Rattle.step_data.specs.declared.outcome.Cause.{Cause}
 use Rattle.step_data.specs.declared.outcome.Options.{Options}
 use Rattle.step_data.specs.Steps.{end_of, next}
+use Rattle.step_data.specs.Options.{IsAllowed}
+use Rattle.step_model.specs.Answers.{IsStep}
 use Rattle.step_model.specs.System.{System, Landing, grown, attempt, attempt_by, rejected_by, failed_by}
 
 -- a step between the least and the greatest one
@@ -47,3 +49,27 @@ attempt_by-from o tip (Err c) s =
 pub attempt_from : (sys : System) (frame : List Val) (tip : Tip) → HasStep sys.options tip.h → AttemptFrom sys.options tip (attempt sys frame tip)
 unfolding attempt
 attempt_from sys frame tip s = attempt_by-from sys.options tip (sys.trial frame tip tip.h) s
+
+-- with allowed options each step lies from one tick to one second
+pub allowed_step : (o : Options) (h : ℕ) → IsAllowed o → HasStep o h → IsStep h
+allowed_step o h allowed s =
+    let positive = allowed.hmin_least in
+    let bound = allowed.hmax_most in
+    let least = s.least in
+    let most = s.most in
+    record { least = omega arith; most = omega arith }
+
+-- the step of a tip, and the steps that its attempt gives
+pub record StepsWithin (tip : Tip) (a : Attempt) : Type 0 where
+  pub tried : IsStep tip.h
+  pub given : IsStep a.next_h
+  pub behind : IsStep (next tip a).h
+
+pub attempts_within : (sys : System) (frame : List Val) (tip : Tip) → IsAllowed sys.options → HasStep sys.options tip.h → StepsWithin tip (attempt sys frame tip)
+attempts_within sys frame tip allowed s =
+    let from = attempt_from sys frame tip s in
+    record {
+      tried = allowed_step sys.options tip.h allowed s;
+      given = allowed_step sys.options (attempt sys frame tip).next_h allowed from.step;
+      behind = allowed_step sys.options (next tip (attempt sys frame tip)).h allowed from.behind;
+    }

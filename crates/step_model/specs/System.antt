@@ -3,8 +3,9 @@ use Rattle.std.specs.Prelude.{ℕ, ◌*◌, ◌/◌, Bool, true, false, nat_le, 
 use Rattle.ams_value.specs.declared.val.Val.{Val}
 use Rattle.step_data.specs.declared.tip.Tip.{Tip}
 use Rattle.step_data.specs.declared.tip.Attempt.{Attempt}
+use Rattle.step_data.specs.declared.trans.Trans.{Trans}
 use Rattle.step_data.specs.declared.breaks.Element.{Element}
-use Rattle.step_data.specs.declared.breaks.Above.{Above}
+use Rattle.step_data.specs.declared.breaks.ThresholdState.{ThresholdState}
 use Rattle.step_data.specs.declared.event.Event.{Event}
 use Rattle.step_data.specs.declared.outcome.Cause.{Cause}
 use Rattle.step_data.specs.declared.outcome.ChooseKind.{ChooseKind}
@@ -24,20 +25,20 @@ pub record ProcessState : Type 0 where
   pub loops : List (ℤ × ℤ)
 
 -- the digital side between two cycles, as plain lists: the time of the last cycle; whether DOMAIN is TIME_DOMAIN; the
--- values of the thresholds and of the signals; of each driven signal its pending transactions with their times; the
+-- values of the thresholds and of the signals; of each driven signal its pending transactions; the
 -- processes; of each ramp whether its stop isn't met; and the break elements that the last cycle executed
 pub record Digital : Type 0 where
   pub time : ℕ
   pub timed : Bool
   pub kept : List Bool
   pub signals : List Val
-  pub queues : List (List (ℕ × Val))
+  pub queues : List (List Trans)
   pub processes : List ProcessState
   pub ramps : List Bool
   pub broken : List Element
 
--- a cycle: what it leaves, the events that it gives in order, and how it ended. After a refusal nothing is said of what it leaves
-pub record Cycle : Type 0 where
+-- what comes of a cycle: what it leaves, the events that it gives in order, and how it ended. After a refusal nothing is said of what it leaves
+pub record CycleOutcome : Type 0 where
   pub digital : Digital
   pub events : List Event
   pub ran : Ran
@@ -56,8 +57,8 @@ pub record System : Type 0 where
   pub is_frame : List Val → Bool
   -- an element's selector is a differentiated quantity, and its quantity one of the design
   pub is_element : Element → Bool
-  -- an event can be printed: its enumeration values, bit vectors and severity are in range
-  pub is_event : Event → Bool
+  -- a value of a signal can be printed: it lies in its range, an enumeration value below its type's number of literals
+  pub is_printable : Val → Bool
   -- the values of the unknowns before the first solution
   pub initial : List ℤ
   -- under a frame: a step of a size from a tip
@@ -67,13 +68,13 @@ pub record System : Type 0 where
   -- under a frame: the branch of each choice at a time and these values
   pub choose : List Val → ℕ → ChooseKind → List ℤ → Result (List ℕ) Cause
   -- each process runs once up to its wait, by these values of the unknowns
-  pub start : List ℤ → Cycle
+  pub start : List ℤ → CycleOutcome
   -- the cycle at a time and a delta, by these values of the unknowns; true where DOMAIN becomes TIME_DOMAIN in it
-  pub cycle : Digital → ℕ → ℕ → List ℤ → Bool → Cycle
+  pub cycle : Digital → ℕ → ℕ → List ℤ → Bool → CycleOutcome
   -- the least time at which a transaction or a timeout stands
   pub next_time : Digital → Option ℕ
   pub frame : Digital → List Val
-  pub thresholds : Digital → List Above
+  pub thresholds : Digital → List ThresholdState
   -- the break elements that the last cycle executed
   pub breaks : Digital → List Element
   pub options : Options
@@ -119,7 +120,7 @@ blank_digital =
       broken = [];
     }
 
-abbrev pub nothing_runs : Digital → Cycle
+abbrev pub nothing_runs : Digital → CycleOutcome
 nothing_runs d = record { digital = d; events = []; ran = Done false }
 
 -- the system without unknowns and without processes
@@ -131,7 +132,7 @@ idle =
       choices = 0;
       is_frame = λ frame. true;
       is_element = λ e. true;
-      is_event = λ e. true;
+      is_printable = λ v. true;
       initial = [];
       trial = λ frame tip s. Ok (record { x = tip.x; err = 0 });
       settle = λ frame t set breaks x. Ok x;

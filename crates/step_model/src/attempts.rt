@@ -4,7 +4,8 @@ ghost use Rattle.std.specs.Prelude.{◌≡◌, ◌≤◌, ◌+◌, length, List,
 ghost use Rattle.ams_value.specs.declared.val.Val.{Val};
 ghost use Rattle.step_data.specs.declared.tip.Tip.{Tip};
 ghost use Rattle.step_model.specs.System.{System, attempt, grown, accepted_by, attempt_by};
-ghost use Rattle.step_model.specs.StepLaws.{HasStep, AttemptFrom};
+ghost use Rattle.step_model.specs.StepLaws.{HasStep, AttemptFrom, StepsWithin};
+ghost use Rattle.step_data.specs.Options.{IsAllowed};
 
 use fix_core::Tick;
 use step_data::{Attempt, Cause, Kind, Options, Tip};
@@ -68,4 +69,11 @@ pub fn refuse(options: &Options, tip: &Tip, cause: Cause, out: &mut Attempt)
 pub fn attempts_keep_the_step()
     ensures { (sys : System) (frame : List Val) (tip : Tip) →
         HasStep sys.options tip.h → AttemptFrom sys.options tip (attempt sys frame tip) }
+{}
+
+/// With allowed options each step lies from one tick to 10^12. It is proved, and does nothing when it runs.
+#[tactic(auto, using(crate::specs::StepLaws::attempts_within))]
+pub fn steps_stay_within_bounds()
+    ensures { (sys : System) (frame : List Val) (tip : Tip) →
+        IsAllowed sys.options → HasStep sys.options tip.h → StepsWithin tip (attempt sys frame tip) }
 {}

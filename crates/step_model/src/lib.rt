@@ -3,8 +3,8 @@
 
 pub mod attempts;
 pub mod contracts;
-pub mod stage;
+pub mod kernel_stage;
 
 pub use attempts::{accept, refuse};
 pub use contracts::{Design, Kernel, Stepper};
-pub use stage::Stage;
+pub use kernel_stage::KernelStage;

@@ -4,7 +4,7 @@ use step_data::Refusal;
 
 /// What became of a kernel so far.
 #[derive(Clone, Copy, Debug, PartialEq, Eq)]
-pub enum Stage {
+pub enum KernelStage {
     /// No process has run yet.
     Unstarted,
     /// Each process stands at a wait.
