@@ -92,21 +92,25 @@ abbrev pub with_signal : List (List ℕ) → Valued → Name → Book → Book
 with_signal texts v x b =
     with_objects (record b.objects {
       signals =
-        b.objects.signals
-        ++ record {
-          path = path_of texts x b;
-          kind = value_type v.subtype.kind;
-          constraint = range_part v.subtype.constraint;
-          initial = value_or_leftmost v.subtype v.value;
-        } ∷ [];
+          b.objects.signals
+          ++ record {
+            path = path_of texts x b;
+            kind = value_type v.subtype.kind;
+            constraint = range_part v.subtype.constraint;
+            initial = value_or_leftmost v.subtype v.value;
+          } ∷ [];
     }) b
 
 abbrev pub signal_of : List (List ℕ) → Access → Valued → Name → Book → Book
 signal_of texts access v x b = declared (thing.Signal (length b.objects.signals) v.subtype access) x (with_signal texts v x b)
 
 -- where the length of a vector follows from generics, so does its value
+abbrev pub constant_value : Kind → Option Val → Option Val
+constant_value (Of k) v = v
+constant_value Vector v = None
+
 abbrev pub constant_of : Valued → Thing
-constant_of v = elim v.subtype.kind as (λ k. Thing) [ Of k ↦ thing.Constant v.subtype v.value | Vector ↦ thing.Constant v.subtype None ]
+constant_of v = thing.Constant v.subtype (constant_value v.subtype.kind v.value)
 
 abbrev pub constant : Valued → Name → Book → Book
 constant v x b = declared (constant_of v) x b

@@ -17,6 +17,7 @@ use Rattle.ams_value.specs.declared.op.BinaryOperator.TheVariants as op2
 use Rattle.flat_expr.specs.declared.expr.FlatExpr.TheVariants as e
 use Rattle.name_scope.specs.declared.thing.Kind.{Kind}
 use Rattle.name_scope.specs.declared.scope.Scope.{Scope}
+use Rattle.name_scope.specs.declared.thing.Thing.{Thing}
 use Rattle.name_scope.specs.Scopes.{lookup}
 use Rattle.elab_meaning.specs.declared.fault.Cause.TheVariants.{WrongType}
 use Rattle.elab_meaning.specs.declared.fault.Notes.{Notes}
@@ -99,9 +100,9 @@ settled place k known.Faulty n = (noted place WrongType n, None)
 settled place k known.Later n = (n, Some (record { kind = k; value = None }))
 settled place k known.Changing n = (n, Some (record { kind = k; value = None }))
 
-abbrev pub asked : Found → Notes × Option Asked
-asked (n, None) = (n, None)
-asked (n, Some t) = settled t.place t.kind t.value n
+abbrev pub asked : Option Typed → Notes → Notes × Option Asked
+asked None n = (n, None)
+asked (Some t) n = settled t.place t.kind t.value n
 
 abbrev pub static_in : Context → Context
 static_in c = record { surrounding = c.surrounding; is_static = true }
@@ -124,12 +125,23 @@ arguments c all (r ∷ more) n =
     let found = r c n in
     arguments c (put all found.1) more found.0
 
+abbrev pub is_fine : Option Typed → Notes → Notes × Bool
+is_fine found n =
+    let a = asked found n in
+    (a.0, is_some a.1)
+
 -- a time of a ramp, and whether it keeps the rules
 abbrev pub time_of : Context → Option Reading → Notes → Notes × Bool
 time_of c None n = (n, true)
 time_of c (Some r) n =
-    let a = asked (r (static_in c) n) in
-    (a.0, is_some a.1)
+    let found = r (static_in c) n in
+    is_fine found.1 found.0
+
+-- behind the level of 'above
+abbrev pub above_found : Context → Name → Option Thing → Option Typed → Notes → Found
+above_found c x thing found n =
+    let level = asked found n in
+    above_at x thing level.1 (changing c x.place level.0)
 
 -- one level of an attribute, behind its name
 abbrev pub attribute_step : Scope → Attribute-F (Name → Reading) Reading → Name → Reading
@@ -137,8 +149,8 @@ attribute_step scope Attribute-F.Event x c n = event_in c c.surrounding x (looku
 attribute_step scope Attribute-F.Dot x c n = dot_at c x (lookup scope x.number) n
 attribute_step scope Attribute-F.Reference x c n = reference_at c x (lookup scope x.number) n
 attribute_step scope (Attribute-F.Above r) x c n =
-    let level = asked (r (static_in c) n) in
-    above_at x (lookup scope x.number) level.1 (changing c x.place level.0)
+    let found = r (static_in c) n in
+    above_found c x (lookup scope x.number) found.1 found.0
 attribute_step scope (Attribute-F.Ramp rise fall) x c n =
     let a = time_of c rise n in
     let b = time_of c fall a.0 in
@@ -173,4 +185,6 @@ attribute texts scope = fold-Attribute (Name → Reading) Reading (attribute_ste
 
 -- an expression whose value is asked before the run
 abbrev pub static : List (List ℕ) → Scope → Expr → Context → Notes → Notes × Option Asked
-static texts scope x c n = asked (expression texts scope x (static_in c) n)
+static texts scope x c n =
+    let found = expression texts scope x (static_in c) n in
+    asked found.1 found.0

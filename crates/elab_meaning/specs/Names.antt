@@ -119,14 +119,19 @@ abbrev pub element : Place → Subtype → Typed → Typed → Notes → Found
 element place s v i n =
     (n, Some (record { place = place; kind = Of t.Bit; expr = e.Index v.expr i.expr (index_range s.constraint); value = element_value s.constraint v.value i.value }))
 
-abbrev pub element_in : Place → Subtype → Typed → Found → Found
-element_in place s i (n, Some v) = element place s v i n
-element_in place s i (n, None) = (n, None)
+abbrev pub element_at : Place → Subtype → Typed → Option Typed → Notes → Found
+element_at place s i None n = (n, None)
+element_at place s i (Some v) n = element place s v i n
+
+abbrev pub element_of_name : Context → Name → Subtype → Typed → Thing → Notes → Found
+element_of_name c x s i thing n =
+    let v = named c x (Some thing) n in
+    element_at x.place s i v.1 v.0
 
 abbrev pub indexed : Context → Name → Thing → Option Subtype → Typed → Notes → Found
 indexed c x thing None i n = wrong x.place n
 indexed c x thing (Some s) i n =
-    if is_vector s.kind && same_kind i.kind (Of t.Integer) then element_in x.place s i (named c x (Some thing) n) else wrong x.place n
+    if is_vector s.kind && same_kind i.kind (Of t.Integer) then element_of_name c x s i thing n else wrong x.place n
 
 abbrev pub applied : Context → Name → Thing → Option Function → Typed → Notes → Found
 applied c x thing (Some f) a n = called x.place a f n
@@ -173,7 +178,7 @@ event_in c Condition x t n = no_event x t n
 event_in c _ x t n = event_at c x t n
 
 -- 'dot asks for a quantity
-abbrev pub dot : Context → Name → ℕ → Notes → Found
+unfoldable pub dot : Context → Name → ℕ → Notes → Found
 dot c x q n =
     (dotted q (changing c x.place n), Some (record { place = x.place; kind = Of t.Real; expr = e.Unknown (unknown.Dot (number_of_dot q n.dots)); value = Changing }))
 
@@ -199,7 +204,7 @@ level_of _ = pos 0
 abbrev pub threshold : ℕ → Asked → Threshold
 threshold q level = record { quantity = q; level = level_of level.value }
 
-abbrev pub above : Place → Threshold → Notes → Found
+unfoldable pub above : Place → Threshold → Notes → Found
 above place h n =
     (watched h n, Some (record { place = place; kind = Of t.Boolean; expr = e.Signal (signal.Threshold (number_of_threshold h n.thresholds)) t.Boolean; value = Changing }))
 

@@ -3,6 +3,7 @@ use Rattle.std.specs.Prelude.{ℕ, nat_eq, nat_lt, nat_le, Bool, true, false, �
 use Rattle.std.specs.List.{fold, slice_get}
 use Rattle.message_codes.specs.Codes as code
 use Rattle.ams_token.specs.declared.token.Place.{Place}
+use Rattle.flat_design.specs.Limits.{unknown_limit, threshold_limit}
 use Rattle.flat_design.specs.Lists.{with_dot, with_threshold}
 use Rattle.flat_design.specs.declared.objects.Threshold.{Threshold}
 use Rattle.elab_meaning.specs.declared.fault.Cause.{Cause}
@@ -31,17 +32,11 @@ wrong place n = (noted place WrongType n, None)
 abbrev pub changing : Context → Place → Notes → Notes
 changing c place n = if c.is_static then noted place NotStatic n else n
 
--- a design has at most so many unknowns and so many thresholds, and of more than that one is enough to tell
-abbrev pub unknown_limit : ℕ
-unknown_limit = 96
-
-abbrev pub threshold_limit : ℕ
-threshold_limit = 256
-
-abbrev pub dotted : ℕ → Notes → Notes
+-- of more dots or thresholds than a design may have one is enough to tell
+unfoldable pub dotted : ℕ → Notes → Notes
 dotted q n = if nat_le (length n.dots) unknown_limit then record { faults = n.faults; dots = with_dot q n.dots; thresholds = n.thresholds } else n
 
-abbrev pub watched : Threshold → Notes → Notes
+unfoldable pub watched : Threshold → Notes → Notes
 watched t n = if nat_le (length n.thresholds) threshold_limit then record { faults = n.faults; dots = n.dots; thresholds = with_threshold t n.thresholds } else n
 
 -- ---- the first fault in text order

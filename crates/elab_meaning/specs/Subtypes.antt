@@ -1,5 +1,5 @@
 -- Subtypes (IEEE 1076, 6.3 and 5.3.2), and the values that declarations give.
-use Rattle.std.specs.Prelude.{ℕ, ◌+◌, ◌-◌, nat_lt, ℤ, pos, neg_ℤ, int_lt, Bool, true, false, ◌&&◌, ◌||◌, if◌then◌else◌, List, Option, Some, None}
+use Rattle.std.specs.Prelude.{ℕ, ◌+◌, ◌-◌, ℤ, pos, neg_ℤ, int_lt, int_le, unsigned_abs, Bool, true, false, ◌&&◌, ◌||◌, if◌then◌else◌, List, Option, Some, None}
 use Rattle.fix_core.specs.Units.{most_units, most_ticks}
 use Rattle.ams_value.specs.Ranges.{most_integer, most_elements}
 use Rattle.ams_token.specs.declared.token.Place.{Place}
@@ -41,6 +41,12 @@ use Rattle.elab_meaning.specs.Expressions.{static}
 abbrev pub declaring : Context
 declaring = record { surrounding = surrounding.Declaration; is_static = true }
 
+-- an expression of a declaration whose value is asked before the run
+abbrev pub static_part : List (List ℕ) → Scope → Expr → Notes → Notes × Part Asked
+static_part texts scope x n =
+    let found = static texts scope x declaring n in
+    (found.0, part_of found.1)
+
 -- ---- which values a subtype has
 
 abbrev pub holds : SubtypeConstraint → Val → Bool
@@ -60,7 +66,7 @@ suits s a = same_kind s.kind a.kind && holds_known s.constraint a.value
 
 -- a bound of an index: an INTEGER from 0 to 63
 abbrev pub bound_value : Option Val → Part (Option ℕ)
-bound_value (Some (val.Int (pos i))) = where_true (nat_lt i most_elements) (Some i)
+bound_value (Some (val.Int i)) = where_true (int_le (pos 0) i && int_lt i (pos most_elements)) (Some (unsigned_abs i))
 bound_value (Some v) = Wrong
 bound_value None = Kept None
 
@@ -84,13 +90,22 @@ vector_of d _ _ = record { kind = Vector; constraint = constraint.Later }
 abbrev pub bounded : Direction → Asked → Asked → Part Subtype
 bounded d a b = both (λ left right. Kept (vector_of d left right)) (index_bound a) (index_bound b)
 
+abbrev pub given_index : Subtype → Part (Option Subtype)
+given_index s = Kept (Some s)
+
+abbrev pub indexed : Direction → Asked → Asked → Part (Option Subtype)
+indexed d a b = judged given_index (bounded d a b)
+
+abbrev pub ranged_index : Direction → Part Asked → Part Asked → Part (Option Subtype)
+ranged_index d left right = both (indexed d) left right
+
 -- the range of an index, where it is written, as the subtype of BIT_VECTOR with it
 abbrev pub index_subtype : List (List ℕ) → Scope → Option Range → Notes → Notes × Part (Option Subtype)
 index_subtype texts scope None n = (n, Kept None)
 index_subtype texts scope (Some r) n =
-    let left = static texts scope r.left declaring n in
-    let right = static texts scope r.right declaring left.0 in
-    (right.0, both (λ a b. judged (λ s. Kept (Some s)) (bounded r.direction a b)) (part_of left.1) (part_of right.1))
+    let left = static_part texts scope r.left n in
+    let right = static_part texts scope r.right left.0 in
+    (right.0, ranged_index r.direction left.1 right.1)
 
 -- the subtype of a mark: BIT_VECTOR alone has the range of an index, and must have it
 abbrev pub marked : Thing → Option Subtype → Part Subtype
@@ -129,9 +144,9 @@ narrowed_by Hidden a b = Hidden
 abbrev pub in_bounds : List (List ℕ) → Scope → Option Bounds → Part Subtype → Notes → Notes × Part Subtype
 in_bounds texts scope None s n = (n, s)
 in_bounds texts scope (Some r) s n =
-    let low = static texts scope r.low declaring n in
-    let high = static texts scope r.high declaring low.0 in
-    (high.0, narrowed_by s (part_of low.1) (part_of high.1))
+    let low = static_part texts scope r.low n in
+    let high = static_part texts scope r.high low.0 in
+    (high.0, narrowed_by s low.1 high.1)
 
 -- what a subtype indication is found to be
 abbrev pub subtype : List (List ℕ) → Scope → SubtypeIndication → Notes → Notes × Part Subtype
@@ -159,9 +174,13 @@ first_of_type c t.Time = val.Time (neg_ℤ (pos most_ticks))
 first_of_type c (t.Enumeration n) = val.Enum n 0
 first_of_type c (t.BitVector n) = val.Bits n 0
 
+abbrev pub leftmost_of : Kind → SubtypeConstraint → Val
+leftmost_of (Of k) c = first_of_type c k
+leftmost_of Vector c = val.Bits 0 0
+
 -- the leftmost value of the subtype; of a vector, each element's
 abbrev pub leftmost : Subtype → Val
-leftmost s = elim s.kind as (λ k. Val) [ Of k ↦ first_of_type s.constraint k | Vector ↦ val.Bits 0 0 ]
+leftmost s = leftmost_of s.kind s.constraint
 
 -- the value that is written
 abbrev pub written : Subtype → Asked → Part Valued
@@ -175,8 +194,8 @@ default s = where_true (holds s.constraint (leftmost s)) (record { subtype = s; 
 abbrev pub initial : List (List ℕ) → Scope → Part Subtype → Option Expr → Notes → Notes × Part Valued
 initial texts scope s None n = (n, judged default s)
 initial texts scope s (Some x) n =
-    let value = static texts scope x declaring n in
-    (value.0, both written s (part_of value.1))
+    let value = static_part texts scope x n in
+    (value.0, both written s value.1)
 
 -- a subtype and its value as a declaration writes them
 abbrev pub valued : List (List ℕ) → Scope → SubtypeIndication → Option Expr → Notes → Notes × Part Valued

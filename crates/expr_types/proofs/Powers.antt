@@ -1,9 +1,7 @@
 -- Powers, and the contents of vectors.
-use Rattle.std.proofs.Common.{◌≡◌, ℕ, zero, suc, ◌+◌, ◌-◌, ◌*◌, ◌/◌, ◌^◌, ◌<◌, ◌≤◌, nat_le, Bool, true, false, if◌then◌else◌, List, [], ◌∷◌, Option, Some, None, arith, refl, sym, ap, ◌∙◌, subst}
-use Rattle.std.specs.List.{fold}
+use Rattle.std.proofs.Common.{◌≡◌, ℕ, zero, suc, ◌+◌, ◌-◌, ◌*◌, ◌/◌, ◌^◌, ◌<◌, ◌≤◌, nat_le, Bool, true, false, if◌then◌else◌, Option, Some, None, IfSome, arith, refl, sym, ap, ◌∙◌, subst}
 use Rattle.std.proofs.lemmas.Bool.Decides.{nat_tests}
-use Rattle.std.proofs.Math.Nat.{pow-zero, pow-succ', mul-zero, mul-one, zero-mul, mul_assoc, div-div-eq-div-mul, one-le-pow, mul-le-mul_left}
-use Rattle.elab_meaning.specs.Literals.{with_element}
+use Rattle.std.proofs.Math.Nat.{pow-zero, pow-succ', mul-zero, mul-one, zero-mul, mul_assoc, div-div-eq-div-mul, one-le-pow, mul-le-mul_left, pow-le-pow_right}
 use Rattle.expr_types.specs.Known.{limited}
 
 one_more : (e : ℕ) → 0 < e → e ≡ suc (e - 1)
@@ -51,13 +49,26 @@ lowered_last m e h = ap (λ k. m / 10 ^ k) h ∙ grind arith
 pub lowered_step : (m e : ℕ) → 0 < e → m / 10 / 10 ^ (e - 1) ≡ m / 10 ^ e
 lowered_step m e h = div-div-eq-div-mul m 10 (10 ^ (e - 1)) ∙ sym (ap (λ k. m / 10 ^ k) (one_more e h) ∙ ap (λ x. m / x) (pow-succ' 10 (e - 1)))
 
--- no more elements change what is none
-pub fold_none : (text : List ℕ) → fold with_element None text ≡ None
-fold_none [] = refl
-fold_none (c ∷ text) = fold_none text
-
-pub twice : (i : ℕ) → 2 ^ (i + 1) ≡ 2 * 2 ^ i
+twice : (i : ℕ) → 2 ^ (i + 1) ≡ 2 * 2 ^ i
 twice i = ap (λ k. 2 ^ k) more ∙ pow-succ' 2 i
   where
     more : i + 1 ≡ suc i
     more = omega arith
+
+pub even_bound : (i a : ℕ) → a < 2 ^ i → 2 * a < 2 ^ (i + 1)
+even_bound i a h =
+    let e : 2 ^ (i + 1) ≡ 2 * 2 ^ i = twice i in
+    omega arith
+
+pub odd_bound : (i a : ℕ) → a < 2 ^ i → 2 * a + 1 < 2 ^ (i + 1)
+odd_bound i a h =
+    let e : 2 ^ (i + 1) ≡ 2 * 2 ^ i = twice i in
+    omega arith
+
+-- fewer than 64 elements leave room for one more
+pub small_content : (o : Option ℕ) (i n : ℕ) → i < n → n ≤ 64 → IfSome o (λ a. a < 2 ^ i) → IfSome o (λ a. a < 9223372036854775808)
+small_content None i n h k g = tt
+small_content (Some a) i n h k g =
+    let small : i ≤ 63 = omega arith in
+    let m : 2 ^ i ≤ 2 ^ 63 = pow-le-pow_right (omega arith) small in
+    omega arith

@@ -7,13 +7,13 @@ ghost use Rattle.expr_types.specs.Known.{Finds, IsSound};
 
 use crate::kinds::same_kind;
 use crate::names::{read, unknown_name};
-use crate::note::{note_changing, wrong};
+use crate::noting::{note_changing, wrong};
 use ams_token::Place;
 use ams_tree::Name;
 use ams_value::{Val, ValueType};
 use elab_meaning::{Asked, Context, Notes, StaticValue, Surrounding, Typed};
 use fix_core::Fix;
-use flat_design::{Terminal, Threshold};
+use flat_design::{THRESHOLD_LIMIT, Terminal, Threshold, UNKNOWN_LIMIT};
 use flat_expr::{FlatExpr, SignalName, Unknown};
 use name_scope::{Kind, Thing};
 use std::alloc::AllocError;
@@ -100,6 +100,7 @@ fn number_of_dot(dots: &[u32], quantity: u32) -> usize
 }
 
 /// The number of the dot of a quantity, which is added where there is none like it yet.
+#[tactic(auto, unfolding(elab_meaning::specs::Notes::dotted))]
 fn add_dot(quantity: u32, notes: &mut Notes) -> Result<u32, AllocError>
     ensures number { IfOk result (λ number. number ≡ number_of_dot quantity notes.old.dots) }
     ensures ok { OnOk result (notes.new ≡ noted.dotted quantity notes.old) }
@@ -108,12 +109,13 @@ fn add_dot(quantity: u32, notes: &mut Notes) -> Result<u32, AllocError>
     let Ok(number) = u32::try_from(place) else {
         return Err(AllocError);
     };
-    if notes.dots.len() <= 96 && place == notes.dots.len() {
+    if notes.dots.len() <= UNKNOWN_LIMIT && place == notes.dots.len() {
         notes.dots.push(quantity)?;
     }
     Ok(number)
 }
 
+#[tactic(auto, unfolding(elab_meaning::specs::Names::dot))]
 fn dot(
     context: Context,
     name: Name,
@@ -193,6 +195,7 @@ fn number_of_threshold(thresholds: &[Threshold], threshold: &Threshold) -> usize
 }
 
 /// The number of a threshold, which is added where there is none like it yet.
+#[tactic(auto, unfolding(elab_meaning::specs::Notes::watched))]
 fn add_threshold(threshold: Threshold, notes: &mut Notes) -> Result<u32, AllocError>
     ensures number { IfOk result (λ number. number ≡ number_of_threshold threshold notes.old.thresholds) }
     ensures ok { OnOk result (notes.new ≡ noted.watched threshold notes.old) }
@@ -201,7 +204,7 @@ fn add_threshold(threshold: Threshold, notes: &mut Notes) -> Result<u32, AllocEr
     let Ok(number) = u32::try_from(place) else {
         return Err(AllocError);
     };
-    if notes.thresholds.len() <= 256 && place == notes.thresholds.len() {
+    if notes.thresholds.len() <= THRESHOLD_LIMIT && place == notes.thresholds.len() {
         notes.thresholds.push(threshold)?;
     }
     Ok(number)
@@ -217,6 +220,7 @@ fn level_of(value: &Option<Val>) -> Fix
     }
 }
 
+#[tactic(auto, unfolding(elab_meaning::specs::Names::above))]
 fn above(
     place: Place,
     quantity: u32,

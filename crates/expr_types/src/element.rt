@@ -1,7 +1,6 @@
 //! Names before arguments: functions, conversions and elements of vectors.
 ghost use Rattle.std.specs.Prelude.{◌≡◌, ◌≤◌, pos, Some, IfOk, IfSome};
 ghost use Rattle.ams_value.specs.Types.{IsValue};
-ghost use Rattle.elab_meaning.specs.declared.fault.Notes.{Notes};
 ghost use Rattle.flat_expr.specs.declared.expr.FlatExpr.TheVariants as e;
 ghost use Rattle.flat_expr.specs.Expr.{kind_of_call};
 ghost use Rattle.name_scope.specs.declared.thing.Kind.TheVariants.{Of};
@@ -13,7 +12,7 @@ ghost use Rattle.expr_types.specs.Known.{Finds, IsKind, IsOf, IsSound, IsSoundTh
 
 use crate::kinds::{is_vector, same_kind};
 use crate::names::thing_named;
-use crate::note::wrong;
+use crate::noting::wrong;
 use crate::value::{call_value, open_value};
 use ams_token::Place;
 use ams_tree::Name;
@@ -165,9 +164,8 @@ fn vector_at(thing: &Thing) -> Option<Subtype>
     ensures { result ≡ spec.vector_at thing.now }
 {
     match thing {
-        Thing::Constant(subtype, _)
-        | Thing::Signal(_, subtype, _)
-        | Thing::Variable(_, subtype) => Some(*subtype),
+        Thing::Constant(subtype, _) | Thing::Signal(_, subtype, _) | Thing::Variable(_, subtype) =>
+            Some(*subtype),
         _ => None,
     }
 }
@@ -181,19 +179,24 @@ fn element(
     index: Typed,
 ) -> Result<Typed, AllocError>
     requires { IsSound vector }
-    ensures made { (n : Notes) → IfOk result (λ t. spec.element place subtype.now vector index n ≡ (n, Some t)) }
+    ensures made { IfOk result (λ t. t ≡ record { place = place; kind = Of Bit; expr = e.Index vector.expr index.expr (spec.index_range subtype.now.constraint); value = values.element_value subtype.now.constraint vector.value index.value }) }
     ensures sound { IfOk result IsSound }
 {
     let value = element_value(&subtype.constraint, &vector.value, &index.value);
     Ok(Typed {
         place,
         kind: Kind::Of(ValueType::Bit),
-        expr: FlatExpr::index(alloc, vector.expr, index.expr, index_range(&subtype.constraint))?,
+        expr: FlatExpr::index(
+            alloc,
+            vector.expr,
+            index.expr,
+            index_range(&subtype.constraint),
+        )?,
         value,
     })
 }
 
-fn element_in(
+fn element_of_name(
     alloc: Global,
     context: Context,
     name: Name,
@@ -203,7 +206,7 @@ fn element_in(
     notes: &mut Notes,
 ) -> Result<Option<Typed>, AllocError>
     requires { IsSoundThing thing.now }
-    ensures found { Finds (spec.element_in name.place subtype.now index (spec.named context name (Some thing.now) notes.old)) result notes.new }
+    ensures found { Finds (spec.element_of_name context name subtype.now index thing.now notes.old) result notes.new }
     ensures sound { IfOk result (λ t. IfSome t IsSound) }
 {
     match thing_named(context, name, thing, notes)? {
@@ -228,7 +231,7 @@ fn indexed(
     match vector_at(thing) {
         Some(subtype) => {
             if is_vector(subtype.kind) && same_kind(index.kind, Kind::Of(ValueType::Integer)) {
-                element_in(alloc, context, name, thing, &subtype, index, notes)
+                element_of_name(alloc, context, name, thing, &subtype, index, notes)
             } else {
                 wrong(notes, name.place)
             }

@@ -2,7 +2,7 @@
 ghost use Rattle.std.specs.Prelude.{◌≡◌};
 ghost use Rattle.elab_meaning.specs.Kinds as spec;
 
-use ams_value::{UnaryOperator, BinaryOperator, ValueType, binary_type, unary_type};
+use ams_value::{BinaryOperator, UnaryOperator, ValueType, binary_type, unary_type};
 use name_scope::Kind;
 
 fn same_type(s: ValueType, t: ValueType) -> bool
@@ -124,9 +124,19 @@ fn open_kind(op: BinaryOperator, s: Kind, t: Kind) -> Option<Kind>
     ensures { result ≡ spec.open_kind op s t }
 {
     match op {
-        BinaryOperator::And | BinaryOperator::Or | BinaryOperator::Nand | BinaryOperator::Nor | BinaryOperator::Xor | BinaryOperator::Xnor => open_logical(s, t),
+        BinaryOperator::And
+        | BinaryOperator::Or
+        | BinaryOperator::Nand
+        | BinaryOperator::Nor
+        | BinaryOperator::Xor
+        | BinaryOperator::Xnor => open_logical(s, t),
         BinaryOperator::Equal | BinaryOperator::NotEqual => open_equality(s, t),
-        BinaryOperator::Sll | BinaryOperator::Srl | BinaryOperator::Sla | BinaryOperator::Sra | BinaryOperator::Rol | BinaryOperator::Ror => open_shift(s, t),
+        BinaryOperator::Sll
+        | BinaryOperator::Srl
+        | BinaryOperator::Sla
+        | BinaryOperator::Sra
+        | BinaryOperator::Rol
+        | BinaryOperator::Ror => open_shift(s, t),
         BinaryOperator::Concat => open_concat(s, t),
         _ => None,
     }

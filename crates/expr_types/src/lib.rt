@@ -6,12 +6,12 @@ mod element;
 mod kinds;
 mod literal;
 mod names;
-mod note;
+mod noting;
 mod operator;
 mod read;
 mod value;
 
 pub use kinds::{is_vector, same_kind, value_type};
 pub use literal::text_of;
-pub use note::note;
+pub use noting::note;
 pub use read::{asked, expression, static_value};

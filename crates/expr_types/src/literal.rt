@@ -1,5 +1,5 @@
 //! Literals.
-ghost use Rattle.std.specs.Prelude.{◌≡◌, ◌<◌, ◌≤◌, ◌*◌, ◌/◌, ◌^◌, Some, IfOk, IfSome, length};
+ghost use Rattle.std.specs.Prelude.{◌≡◌, ℕ, ◌+◌, ◌<◌, ◌≤◌, ◌*◌, ◌/◌, ◌^◌, Some, IfOk, IfSome, length};
 ghost use Rattle.std.specs.List.{fold};
 ghost use Rattle.flat_expr.specs.declared.expr.FlatExpr.TheVariants as e;
 ghost use Rattle.elab_meaning.specs.declared.typed.StaticValue.TheVariants as known;
@@ -13,7 +13,7 @@ ghost use Rattle.ams_value.specs.Types.{IsValue, type_of};
 ghost use Rattle.ams_tree.specs.declared.expression.NumberValue.TheVariants as written;
 ghost use Rattle.expr_types.specs.Known.{Finds, IsSound, limited};
 
-use crate::note::{note, wrong};
+use crate::noting::{note, wrong};
 use ams_token::{Decimal, Integer, Names, Place};
 use ams_tree::{Literal, LiteralValue, Name, Number, NumberValue};
 use ams_value::{Val, ValueType};
@@ -67,7 +67,10 @@ fn in_range(
 fn raised(digits: u128, base: u32, exponent: u64, limit: u128) -> Option<u128>
     ensures { result ≡ limited limit (digits * base ^ exponent) }
 {
-    if digits == 0 || exponent == 0 {
+    if digits == 0 {
+        return limited(limit, digits);
+    }
+    if exponent == 0 {
         return limited(limit, digits);
     }
     match digits.checked_mul(u128::from(base)) {
@@ -87,7 +90,10 @@ fn limited(limit: u128, value: u128) -> Option<u128>
 fn lowered(m: u128, digits: u64) -> u128
     ensures { result ≡ m / 10 ^ digits }
 {
-    if m == 0 || digits == 0 {
+    if m == 0 {
+        return m;
+    }
+    if digits == 0 {
         return m;
     }
     lowered(m / 10, digits - 1)
@@ -140,21 +146,45 @@ fn scale_of(text: &str) -> Option<Scale>
     ensures { result ≡ spec.scale_of text.now }
 {
     if text == "fs" {
-        Some(Scale { factor: 1, power: -3 })
+        Some(Scale {
+            factor: 1,
+            power: -3,
+        })
     } else if text == "ps" {
-        Some(Scale { factor: 1, power: 0 })
+        Some(Scale {
+            factor: 1,
+            power: 0,
+        })
     } else if text == "ns" {
-        Some(Scale { factor: 1, power: 3 })
+        Some(Scale {
+            factor: 1,
+            power: 3,
+        })
     } else if text == "us" {
-        Some(Scale { factor: 1, power: 6 })
+        Some(Scale {
+            factor: 1,
+            power: 6,
+        })
     } else if text == "ms" {
-        Some(Scale { factor: 1, power: 9 })
+        Some(Scale {
+            factor: 1,
+            power: 9,
+        })
     } else if text == "sec" {
-        Some(Scale { factor: 1, power: 12 })
+        Some(Scale {
+            factor: 1,
+            power: 12,
+        })
     } else if text == "min" {
-        Some(Scale { factor: 6, power: 13 })
+        Some(Scale {
+            factor: 6,
+            power: 13,
+        })
     } else if text == "hr" {
-        Some(Scale { factor: 36, power: 14 })
+        Some(Scale {
+            factor: 36,
+            power: 14,
+        })
     } else {
         None
     }
@@ -303,24 +333,35 @@ fn char_literal(c: u8) -> Option<Val>
     }
 }
 
+/// A content with one more element behind it.
+#[tactic(auto, using(crate::proofs::Powers::even_bound, crate::proofs::Powers::odd_bound))]
+fn with_element(content: Option<u64>, c: u8) -> Option<u64>
+    requires { IfSome content (λ a. a < 9223372036854775808) }
+    ensures value { result ≡ spec.with_element content c }
+    ensures bound { (i : ℕ) → IfSome content (λ a. a < 2 ^ i) → IfSome result (λ a. a < 2 ^ (i + 1)) }
+{
+    let content = content?;
+    if c == 48 {
+        Some(2 * content)
+    } else if c == 49 {
+        Some(2 * content + 1)
+    } else {
+        None
+    }
+}
+
 /// The content of a vector of these elements, the last one as the lowest bit.
-#[tactic(auto, using(crate::proofs::Powers::element_bound, crate::proofs::Powers::fold_none))]
+#[tactic(auto, using(crate::proofs::Powers::small_content))]
 fn content_of(text: &[u8]) -> Option<u64>
     requires { length text.now ≤ 64 }
     ensures value { result ≡ fold spec.with_element (Some 0) text.now }
     ensures bound { IfSome result (λ content. content < 2 ^ length text.now) }
 {
-    let mut content: u64 = 0;
+    let mut content = Some(0);
     for c in text {
-        if *c == 48 {
-            content = 2 * content;
-        } else if *c == 49 {
-            content = 2 * content + 1;
-        } else {
-            return None;
-        }
+        content = with_element(content, *c);
     }
-    Some(content)
+    content
 }
 
 fn vector_literal(text: &[u8]) -> Option<Val>

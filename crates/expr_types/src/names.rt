@@ -6,7 +6,7 @@ ghost use Rattle.expr_types.specs.Known.{Finds, IsKind, IsSound, IsSoundThing};
 
 use crate::kinds::value_type;
 use crate::literal::literal;
-use crate::note::{note, note_changing, wrong};
+use crate::noting::{note, note_changing, wrong};
 use ams_token::Place;
 use ams_tree::Name;
 use ams_value::{Val, ValueType};
@@ -44,20 +44,28 @@ pub fn read(
     }))
 }
 
-fn now_at(
-    context: Context,
-    place: Place,
-    notes: &mut Notes,
-) -> Result<Option<Typed>, AllocError>
+fn now_at(context: Context, place: Place, notes: &mut Notes) -> Result<Option<Typed>, AllocError>
     ensures found { Finds (spec.now_at context context.surrounding place notes.old) result notes.new }
     ensures sound { IfOk result (λ t. IfSome t IsSound) }
 {
     match context.surrounding {
         Surrounding::Equation | Surrounding::Condition => {
-            read(context, place, Kind::Of(ValueType::Real), FlatExpr::NowReal, notes)
+            read(
+                context,
+                place,
+                Kind::Of(ValueType::Real),
+                FlatExpr::NowReal,
+                notes,
+            )
         }
         Surrounding::Declaration | Surrounding::Process => {
-            read(context, place, Kind::Of(ValueType::Time), FlatExpr::NowTime, notes)
+            read(
+                context,
+                place,
+                Kind::Of(ValueType::Time),
+                FlatExpr::NowTime,
+                notes,
+            )
         }
     }
 }
@@ -133,7 +141,13 @@ pub fn thing_named(
         }
         Thing::Parameter(number) => {
             let expr = FlatExpr::Variable(*number, ValueType::Integer);
-            read(context, name.place, Kind::Of(ValueType::Integer), expr, notes)
+            read(
+                context,
+                name.place,
+                Kind::Of(ValueType::Integer),
+                expr,
+                notes,
+            )
         }
         Thing::Now => now_at(context, name.place, notes),
         Thing::Faulty => Ok(None),

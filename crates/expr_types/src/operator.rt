@@ -8,11 +8,11 @@ ghost use Rattle.elab_meaning.specs.declared.fault.Notes.{Notes};
 ghost use Rattle.expr_types.specs.Known.{Finds, IsSound};
 
 use crate::kinds::{binary_kind, unary_kind, value_type};
-use crate::note::wrong;
+use crate::noting::wrong;
 use crate::value::{joined_value, unary_value};
 use ams_token::Place;
 use ams_tree::{BinaryOperator as Binary, UnaryOperator as Unary};
-use ams_value::{UnaryOperator, BinaryOperator, results_are_typed};
+use ams_value::{BinaryOperator, UnaryOperator, results_are_typed};
 use elab_meaning::{Notes, Typed};
 use flat_expr::FlatExpr;
 use name_scope::Kind;

@@ -2,18 +2,20 @@
 ghost use Rattle.std.specs.Prelude.{◌≡◌, [], Some, map, IfOk, IfSome};
 ghost use Rattle.std.specs.Option.{option_map};
 ghost use Rattle.elab_meaning.specs.Expressions as spec;
+ghost use Rattle.elab_meaning.specs.Names.{above_at};
+ghost use Rattle.elab_meaning.specs.Notes.{changing};
 ghost use Rattle.expr_types.specs.Known.{Finds, IsKind, IsSound, IsSoundAsked, IsSoundScope, OnKnown};
 
 use crate::attribute::{above_at, dot_at, event_in, ramp_at, reference_at};
 use crate::element::call_at;
 use crate::literal::{literal_at, number_at};
 use crate::names::{missing, named};
-use crate::note::{note, note_changing};
+use crate::noting::{note, note_changing};
 use crate::operator::{binary_at, parenthesized, unary_at};
 use ams_token::{Names, Place};
 use ams_tree::{Attribute, Expr, Name};
 use elab_meaning::{Asked, Cause, Context, Notes, StaticValue, Typed};
-use name_scope::{Kind, Scope};
+use name_scope::{Kind, Scope, Thing};
 use sqlite_items::{Boxed, Items};
 use std::alloc::{AllocError, Global};
 
@@ -43,7 +45,7 @@ fn settled(
 /// The value that is asked of an expression before the run.
 pub fn asked(found: &Option<Typed>, notes: &mut Notes) -> Result<Option<Asked>, AllocError>
     requires { IfSome found.now IsSound }
-    ensures found { Finds (spec.asked (notes.old, found.now)) result notes.new }
+    ensures found { Finds (spec.asked found.now notes.old) result notes.new }
     ensures sound { IfOk result (λ a. IfSome a IsSoundAsked) }
 {
     match found {
@@ -61,22 +63,47 @@ fn static_in(context: Context) -> Context
     }
 }
 
-/// Reads an expression whose value is asked before the run.
-#[cycle(read)]
-pub fn static_value(
-    alloc: Global,
-    names: &Names,
-    scope: &Scope,
-    context: Context,
-    expr: &Expr,
-    notes: &mut Notes,
-) -> Result<Option<Asked>, AllocError>
-    requires { IsSoundScope scope.now }
-    ensures found { Finds (spec.static names.now scope.now expr.now context notes.old) result notes.new }
-    ensures sound { IfOk result (λ a. IfSome a IsSoundAsked) }
+/// Whether an expression whose value is asked keeps the rules.
+fn is_fine(found: &Option<Typed>, notes: &mut Notes) -> Result<bool, AllocError>
+    requires { IfSome found.now IsSound }
+    ensures { Finds (spec.is_fine found.now notes.old) result notes.new }
 {
-    let found = expression(alloc, names, scope, static_in(context), expr, notes)?;
-    asked(&found, notes)
+    match asked(found, notes) {
+        Ok(value) => Ok(value.is_some()),
+        Err(error) => Err(error),
+    }
+}
+
+/// `name'above(level)`, behind its level.
+fn above_found(
+    context: Context,
+    name: Name,
+    thing: &Option<Thing>,
+    found: &Option<Typed>,
+    notes: &mut Notes,
+) -> Result<Option<Typed>, AllocError>
+    requires { IfSome found.now IsSound }
+    ensures found { Finds (spec.above_found context name thing.now found.now notes.old) result notes.new }
+    ensures sound { IfOk result (λ t. IfSome t IsSound) }
+{
+    match asked(found, notes) {
+        Ok(level) => above_noted(context, name, thing, &level, notes),
+        Err(error) => Err(error),
+    }
+}
+
+fn above_noted(
+    context: Context,
+    name: Name,
+    thing: &Option<Thing>,
+    level: &Option<Asked>,
+    notes: &mut Notes,
+) -> Result<Option<Typed>, AllocError>
+    ensures found { Finds (above_at name thing.now level.now (changing context name.place notes.old)) result notes.new }
+    ensures sound { IfOk result (λ t. IfSome t IsSound) }
+{
+    note_changing(context, name.place, notes)?;
+    above_at(name, thing, level, notes)
 }
 
 /// A time of a ramp, and whether it keeps the rules.
@@ -95,8 +122,8 @@ fn time_of(
     match expr {
         None => Ok(true),
         Some(expr) => {
-            let value = static_value(alloc, names, scope, context, expr.get(), notes)?;
-            Ok(value.is_some())
+            let found = expression(alloc, names, scope, static_in(context), expr.get(), notes)?;
+            is_fine(&found, notes)
         }
     }
 }
@@ -120,9 +147,8 @@ fn attribute(
         Attribute::Dot => dot_at(context, name, &scope.find(name.number), notes),
         Attribute::Reference => reference_at(context, name, &scope.find(name.number), notes),
         Attribute::Above(level) => {
-            let level = static_value(alloc, names, scope, context, level.get(), notes)?;
-            note_changing(context, name.place, notes)?;
-            above_at(name, &scope.find(name.number), &level, notes)
+            let found = expression(alloc, names, scope, static_in(context), level.get(), notes)?;
+            above_found(context, name, &scope.find(name.number), &found, notes)
         }
         Attribute::Ramp(rise, fall) => {
             let rises = time_of(alloc, names, scope, context, rise, notes)?;
@@ -208,4 +234,21 @@ pub fn expression(
             binary_at(alloc, *op, left, right, notes)
         }
     }
+}
+
+/// Reads an expression whose value is asked before the run.
+pub fn static_value(
+    alloc: Global,
+    names: &Names,
+    scope: &Scope,
+    context: Context,
+    expr: &Expr,
+    notes: &mut Notes,
+) -> Result<Option<Asked>, AllocError>
+    requires { IsSoundScope scope.now }
+    ensures found { Finds (spec.static names.now scope.now expr.now context notes.old) result notes.new }
+    ensures sound { IfOk result (λ a. IfSome a IsSoundAsked) }
+{
+    let found = expression(alloc, names, scope, static_in(context), expr, notes)?;
+    asked(&found, notes)
 }

@@ -11,7 +11,8 @@ ghost use Rattle.flat_expr.specs.Expr.{kind_of_call};
 ghost use Rattle.expr_types.specs.Known.{OnKnown, OnBothKnown, IsOf, MayJoin};
 
 use ams_value::{
-    UnaryOperator, BinaryOperator, Val, ValFault, binary, decided, integer_from_real, real_from_integer, unary,
+    BinaryOperator, UnaryOperator, Val, ValFault, binary, decided, integer_from_real,
+    real_from_integer, unary,
 };
 use elab_meaning::StaticValue;
 use fix_core::{Fix, NumFault};
@@ -126,7 +127,13 @@ pub fn open_value(a: &StaticValue, b: &StaticValue) -> StaticValue
     }
 }
 
-pub fn joined_value(op: BinaryOperator, s: Kind, t: Kind, a: StaticValue, b: StaticValue) -> StaticValue
+pub fn joined_value(
+    op: BinaryOperator,
+    s: Kind,
+    t: Kind,
+    a: StaticValue,
+    b: StaticValue,
+) -> StaticValue
     requires { MayJoin op s t a b }
     ensures { result ≡ spec.joined_value op s t a b }
 {

@@ -15,13 +15,19 @@ use Rattle.unit_meaning.specs.Settings.{Setting}
 use Rattle.unit_meaning.specs.Processes.{process, concurrent_assignment, concurrent_assertion, concurrent_break}
 use Rattle.unit_meaning.specs.Simultaneous.{simple, if_statement, case_statement}
 
+abbrev pub process_of : Part Process → Made
+process_of (Kept p) = made.Process p
+process_of _ = made.Nothing
+
 abbrev pub process_made : Notes × Part Process → Notes × Made
-process_made (n, Kept p) = (n, made.Process p)
-process_made (n, _) = (n, made.Nothing)
+process_made found = (found.0, process_of found.1)
+
+abbrev pub equation_of : Part Equation → Made
+equation_of (Kept q) = made.Equation q
+equation_of _ = made.Nothing
 
 abbrev pub equation_made : Notes × Part Equation → Notes × Made
-equation_made (n, Kept q) = (n, made.Equation q)
-equation_made (n, _) = (n, made.Nothing)
+equation_made found = (found.0, equation_of found.1)
 
 abbrev pub concurrent : Setting → Scope → Option Name → ConcurrentStatement → Notes → Notes × Made
 concurrent w scope label (conc.Process p) n = process_made (process w scope label p n)

@@ -6,3 +6,9 @@ pub mod Sequential
 pub mod Processes
 pub mod Simultaneous
 pub mod Concurrent
+pub mod Interfaces
+pub mod Associations
+pub mod Units
+pub mod Walk
+pub mod Drivers
+pub mod Worked

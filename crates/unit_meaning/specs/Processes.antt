@@ -70,14 +70,14 @@ abbrev pub with_variable : List (List ℕ) → Valued → Name → Draft → Dra
 with_variable texts v x d =
     record d {
       variables =
-        d.variables
-        ++ record {
-          name = text_of texts x.number;
-          kind = value_type v.subtype.kind;
-          constraint = range_part v.subtype.constraint;
-          initial = value_or_leftmost v.subtype v.value;
-          is_parameter = false;
-        } ∷ [];
+          d.variables
+          ++ record {
+            name = text_of texts x.number;
+            kind = value_type v.subtype.kind;
+            constraint = range_part v.subtype.constraint;
+            initial = value_or_leftmost v.subtype v.value;
+            is_parameter = false;
+          } ∷ [];
     }
 
 abbrev pub variable : List (List ℕ) → Valued → Declared → Name → Declared

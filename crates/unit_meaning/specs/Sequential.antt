@@ -68,8 +68,8 @@ abbrev pub with_parameter : List (List ℕ) → Name → Draft → Draft
 with_parameter texts x d =
     record d {
       variables =
-        d.variables
-        ++ record { name = text_of texts x.number; kind = t.Integer; constraint = Whole; initial = val.Int (pos 0); is_parameter = true } ∷ [];
+          d.variables
+          ++ record { name = text_of texts x.number; kind = t.Integer; constraint = Whole; initial = val.Int (pos 0); is_parameter = true } ∷ [];
     }
 
 -- ---- reports
@@ -180,6 +180,13 @@ Statements = Draft × Part (List Statement)
 abbrev pub Reads : Type 0 → Type 0
 Reads A = Scope → Spot → ℕ → Draft → Draft × Part A
 
+-- how a branch of an if is read, and an alternative of a case
+abbrev pub BranchReads : Type 0
+BranchReads = Scope → Spot → Draft → Draft × Part Branch
+
+abbrev pub CaseReads : Type 0
+CaseReads = Scope → Spot → Option Kind → Seen → Draft → Draft × (Seen × Part Alternative)
+
 abbrev pub body : List (Reads Statement) → Scope → Spot → ℕ → Draft → Statements
 body [] scope spot i d = (d, Kept [])
 body (r ∷ more) scope spot i d =
@@ -191,13 +198,13 @@ body (r ∷ more) scope spot i d =
 abbrev pub made_branch : FlatExpr → List Statement → Part Branch
 made_branch x all = Kept (record { condition = x; body = all })
 
-abbrev pub branch_step : Setting → Branch-F (Reads Statement) → Scope → Spot → Draft → Draft × Part Branch
+abbrev pub branch_step : Setting → Branch-F (Reads Statement) CaseReads BranchReads → BranchReads
 branch_step w b scope spot d =
     let x = must_be w scope running (Of t.Boolean) b.condition d.notes in
     let all = body b.body scope spot 0 (with_notes x.0 d) in
     (all.0, both made_branch x.1 all.1)
 
-abbrev pub branches : List (Scope → Spot → Draft → Draft × Part Branch) → Scope → Spot → ℕ → ℕ → Draft → Draft × Part (List Branch)
+abbrev pub branches : List BranchReads → Scope → Spot → ℕ → ℕ → Draft → Draft × Part (List Branch)
 branches [] scope spot i k d = (d, Kept [])
 branches (r ∷ more) scope spot i k d =
     let first = r scope (way_to spot i k) d in
@@ -212,13 +219,10 @@ abbrev pub made_if : List Branch → List Statement → Part Statement
 made_if all last = Kept (statement.If all last)
 
 -- an alternative of a case: the values of its choices, and its statements
-abbrev pub CaseReads : Type 0
-CaseReads = Scope → Spot → Option Kind → Seen → Draft → Draft × (Seen × Part Alternative)
-
 abbrev pub made_alternative : Seen → Seen → Bool → List Statement → Part Alternative
 made_alternative before now fine all = Kept (record { choices = values_since before now; others = others_since before now; body = all })
 
-abbrev pub alternative_step : Setting → Alternative-F (Reads Statement) → CaseReads
+abbrev pub alternative_step : Setting → Alternative-F (Reads Statement) CaseReads BranchReads → CaseReads
 alternative_step w a scope spot k seen d =
     let c = choices w scope (static_in running) k seen a.choices d.notes in
     let all = body a.body scope spot 0 (with_notes c.0 d) in
@@ -272,8 +276,8 @@ loop_statement w (iteration.For x range) all scope spot i d =
     let right = must_be w scope running (Of t.Integer) range.right left.0 in
     let p = length d.variables in
     let inner =
-      body all (with_name (inside scope) x.number (thing.Parameter p)) (within_loop spot i p) 0
-      (with_parameter w.texts x (with_notes right.0 d)) in
+    body all (with_name (inside scope) x.number (thing.Parameter p)) (within_loop spot i p) 0
+    (with_parameter w.texts x (with_notes right.0 d)) in
     (inner.0, both (made_for p range.direction) (both paired left.1 right.1) inner.1)
 
 -- ---- the whole
@@ -295,7 +299,7 @@ signal_statement w x delay wave scope spot i d =
     let to = target scope x d.notes in
     simple x.place (driving to.1 d) (assignment w scope to.1 delay wave to.0)
 
-abbrev pub seq_step : Setting → Seq-F (Reads Statement) CaseReads (Scope → Spot → Draft → Draft × Part Branch) → Reads Statement
+abbrev pub seq_step : Setting → Seq-F (Reads Statement) CaseReads BranchReads → Reads Statement
 seq_step w (Seq-F.Signal x delay wave) scope spot i d = signal_statement w x delay wave scope spot i d
 seq_step w (Seq-F.Variable x value) scope spot i d = simple x.place d (variable_assignment w scope x value d.notes)
 seq_step w (Seq-F.If place all last) scope spot i d =
@@ -313,4 +317,4 @@ seq_step w (Seq-F.Break place elements x) scope spot i d = simple place d (break
 seq_step w (Seq-F.Null place) scope spot i d = (d, Kept statement.Null)
 
 abbrev pub statement_of : Setting → Seq → Reads Statement
-statement_of w = fold-Seq (Reads Statement) CaseReads (Scope → Spot → Draft → Draft × Part Branch) (seq_step w) (alternative_step w) (branch_step w)
+statement_of w = fold-Seq (Reads Statement) CaseReads BranchReads (seq_step w) (alternative_step w) (branch_step w)

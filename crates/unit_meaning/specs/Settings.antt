@@ -1,5 +1,5 @@
 -- Parts of statements.
-use Rattle.std.specs.Prelude.{ℕ, ◌++◌, ◌∷◌, List, [], Option, Some, None}
+use Rattle.std.specs.Prelude.{ℕ, false, ◌∷◌, List, [], Option, Some, None}
 use Rattle.ams_token.specs.declared.token.Place.{Place}
 use Rattle.ams_tree.specs.declared.expression.Expr.{Expr}
 use Rattle.ams_value.specs.declared.val.Val.{Val}
@@ -99,4 +99,4 @@ sealed part = part
 
 -- the whole at this place
 abbrev pub finished : {A : Type 0} → Place → Notes × Part A → Notes × Part A
-finished place (n, part) = (closed place part n, sealed part)
+finished place found = (closed place found.1 found.0, sealed found.1)

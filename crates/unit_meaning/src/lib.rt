@@ -3,9 +3,11 @@
 #![tactic(auto)]
 
 mod draft;
+mod laws;
 mod request;
 mod site;
 
 pub use draft::{Draft, Made, Seen, Spot};
+pub use laws::small_files_are_worked;
 pub use request::{Actual, Assigned, Request};
 pub use site::{Limit, Refusal, Site};
