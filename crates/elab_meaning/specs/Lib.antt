@@ -1,0 +1,9 @@
+pub mod Notes
+pub mod Parts
+pub mod Kinds
+pub mod Values
+pub mod Literals
+pub mod Names
+pub mod Expressions
+pub mod Subtypes
+pub mod Declarations

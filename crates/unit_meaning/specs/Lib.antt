@@ -1,0 +1,14 @@
+pub mod Settings
+pub mod Waveforms
+pub mod Bare
+pub mod Cases
+pub mod Sequential
+pub mod Processes
+pub mod Simultaneous
+pub mod Concurrent
+pub mod Interfaces
+pub mod Associations
+pub mod Units
+pub mod Walk
+pub mod Drivers
+pub mod Worked
