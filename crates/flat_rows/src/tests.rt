@@ -6,9 +6,7 @@ use flat_design::{
     Enumeration, Equation, EquationName, Flat, Instance, Name, Node, Objects, Pair, Process,
     Quantity, QuantityKind, Ramp, Signal, Terminal, Threshold,
 };
-use flat_expr::{
-    Constraint, Direction, FlatExpr, Function, IndexRange, SignalName, Statement, Unknown,
-};
+use flat_expr::{Constraint, Direction, FlatExpr, Function, IndexRange, SignalName, Unknown};
 use sqlite_items::Items;
 use std::alloc::{AllocError, Global};
 use std::process::Abort;
@@ -134,17 +132,21 @@ fn add_signals(rt: &impl Abort, alloc: Global, objects: &mut Objects) -> Result<
     Ok(())
 }
 
-/// A process that waits for ever, the instance, DOMAIN_TYPE and a ramp.
-fn add_others(rt: &impl Abort, alloc: Global, objects: &mut Objects) -> Result<(), AllocError> {
+/// A process without statements.
+fn add_process(rt: &impl Abort, alloc: Global, objects: &mut Objects) -> Result<(), AllocError> {
     let processes = objects.processes.len();
     assert!(rt; processes < 100);
-    let process = Process {
+    let number = objects.add_process(Process {
         variables: Items::new(alloc),
-        statements: Items::from_vec(vec![in alloc; Statement::Null]?),
+        statements: Items::new(alloc),
         drivers: Items::new(alloc),
         waits: Items::new(alloc),
-    };
-    assert_eq!(rt; objects.add_process(process)?, 0);
+    })?;
+    assert_eq!(rt; number, 0);
+    Ok(())
+}
+
+fn add_instance(rt: &impl Abort, alloc: Global, objects: &mut Objects) -> Result<(), AllocError> {
     let instances = objects.instances.len();
     assert!(rt; instances < 100);
     let instance = Instance {
@@ -153,12 +155,25 @@ fn add_others(rt: &impl Abort, alloc: Global, objects: &mut Objects) -> Result<(
         unknowns: 3,
     };
     assert_eq!(rt; objects.add_instance(instance)?, 0);
+    Ok(())
+}
+
+/// DOMAIN_TYPE, with two of its literals.
+fn add_enumeration(
+    rt: &impl Abort,
+    alloc: Global,
+    objects: &mut Objects,
+) -> Result<(), AllocError> {
     let enumerations = objects.enumerations.len();
     assert!(rt; enumerations < 100);
     let mut literals = Items::new(alloc);
     literals.push(name(alloc, "quiescent_domain")?)?;
     literals.push(name(alloc, "time_domain")?)?;
     assert_eq!(rt; objects.add_enumeration(Enumeration { literals })?, 0);
+    Ok(())
+}
+
+fn add_ramp(rt: &impl Abort, objects: &mut Objects) -> Result<(), AllocError> {
     let ramps = objects.ramps.len();
     assert!(rt; ramps < 100);
     let ramp = Ramp {
@@ -172,55 +187,68 @@ fn add_others(rt: &impl Abort, alloc: Global, objects: &mut Objects) -> Result<(
     Ok(())
 }
 
-fn resistor_and_capacitor(rt: &impl Abort, alloc: Global) -> Result<Flat, AllocError> {
-    let mut objects = Objects::new(alloc);
-    add_signals(rt, alloc, &mut objects)?;
-    add_nodes(rt, alloc, &mut objects)?;
-    let (source, resistor, capacitor) = (
-        [Terminal::Node(0), GROUND],
-        [Terminal::Node(0), Terminal::Node(1)],
-        [Terminal::Node(1), GROUND],
-    );
+/// The branches of the source, the resistor and the capacitor.
+fn add_branches(rt: &impl Abort, alloc: Global, objects: &mut Objects) -> Result<(), AllocError> {
+    let source = [Terminal::Node(0), GROUND];
     assert_eq!(rt;
-        add_branch(rt, alloc, &mut objects, ["rc.v", "rc.i"], source)?,
+        add_branch(rt, alloc, objects, ["rc.v", "rc.i"], source)?,
         0
     );
+    let resistor = [Terminal::Node(0), Terminal::Node(1)];
     assert_eq!(rt;
-        add_branch(rt, alloc, &mut objects, ["rc.vr", "rc.ir"], resistor)?,
+        add_branch(rt, alloc, objects, ["rc.vr", "rc.ir"], resistor)?,
         2
     );
+    let capacitor = [Terminal::Node(1), GROUND];
     assert_eq!(rt;
-        add_branch(rt, alloc, &mut objects, ["rc.vc", "rc.ic"], capacitor)?,
+        add_branch(rt, alloc, objects, ["rc.vc", "rc.ic"], capacitor)?,
         4
     );
-    add_equations(rt, alloc, &mut objects)?;
-    add_dot_and_threshold(rt, &mut objects)?;
-    add_others(rt, alloc, &mut objects)?;
+    Ok(())
+}
+
+fn add_all(rt: &impl Abort, alloc: Global, objects: &mut Objects) -> Result<(), AllocError> {
+    add_signals(rt, alloc, objects)?;
+    add_nodes(rt, alloc, objects)?;
+    add_branches(rt, alloc, objects)?;
+    add_equations(rt, alloc, objects)?;
+    add_dot_and_threshold(rt, objects)?;
+    add_process(rt, alloc, objects)?;
+    add_instance(rt, alloc, objects)?;
+    add_enumeration(rt, alloc, objects)?;
+    add_ramp(rt, objects)
+}
+
+fn resistor_and_capacitor(rt: &impl Abort, alloc: Global) -> Result<Flat, AllocError> {
+    let mut objects = Objects::new(alloc);
+    add_all(rt, alloc, &mut objects)?;
     assert!(rt; objects.signals.len() == 2 && objects.quantities.len() == 6);
     assert!(rt; objects.nodes.len() == 2 && objects.equations.len() == 3);
     assert!(rt; objects.dots.len() == 1 && objects.thresholds.len() == 1);
     Flat::new(alloc, objects)
 }
 
-#[test]
-fn the_design_is_the_one_that_was_built(rt: HostRuntime) -> Result<(), Fail> {
-    let flat = resistor_and_capacitor(&rt, rt.alloc())?;
+fn lists_are_those_that_were_built(rt: &impl Abort, flat: &Flat) {
     assert_eq!(rt; flat.frame(), [SignalName::Signal(0)].as_slice());
     assert_eq!(rt; flat.dots(), [4].as_slice());
     assert_eq!(rt; flat.unknown_count(), 9);
-    let lengths = [
-        flat.signals().len(),
-        flat.quantities().len(),
-        flat.nodes().len(),
-        flat.equations().len(),
-        flat.thresholds().len(),
-        flat.processes().len(),
-        flat.instances().len(),
-        flat.enumerations().len(),
-        flat.ramps().len(),
-    ];
-    assert_eq!(rt; lengths, [2, 6, 2, 3, 1, 1, 1, 1, 1]);
-    let names = flat.equation_names(rt.alloc())?;
+    assert_eq!(rt; flat.signals().len(), 2);
+    assert_eq!(rt; flat.quantities().len(), 6);
+    assert_eq!(rt; flat.nodes().len(), 2);
+    assert_eq!(rt; flat.equations().len(), 3);
+    assert_eq!(rt; flat.thresholds().len(), 1);
+    assert_eq!(rt; flat.processes().len(), 1);
+    assert_eq!(rt; flat.instances().len(), 1);
+    assert_eq!(rt; flat.enumerations().len(), 1);
+    assert_eq!(rt; flat.ramps().len(), 1);
+}
+
+fn equations_have_their_names(
+    rt: &impl Abort,
+    alloc: Global,
+    flat: &Flat,
+) -> Result<(), AllocError> {
+    let names = flat.equation_names(alloc)?;
     let want = [
         EquationName::Explicit(0, 0),
         EquationName::Explicit(1, 0),
@@ -236,22 +264,51 @@ fn the_design_is_the_one_that_was_built(rt: HostRuntime) -> Result<(), Fail> {
     Ok(())
 }
 
+fn unknown_is(
+    rt: &impl Abort,
+    alloc: Global,
+    flat: &Flat,
+    number: usize,
+    unknown: Unknown,
+    path: &str,
+) -> Result<(), AllocError> {
+    assert_eq!(rt; flat.number_of(unknown), number);
+    assert!(rt; number < flat.unknown_count());
+    assert_eq!(rt; flat.unknown_at(number), unknown);
+    let name = flat.unknown_name(alloc, unknown)?;
+    assert_eq!(rt; name.as_slice(), path.as_bytes());
+    Ok(())
+}
+
+fn unknowns_have_numbers_and_names(
+    rt: &impl Abort,
+    alloc: Global,
+    flat: &Flat,
+) -> Result<(), AllocError> {
+    unknown_is(rt, alloc, flat, 0, Unknown::Quantity(0), "rc.v")?;
+    unknown_is(rt, alloc, flat, 5, Unknown::Quantity(5), "rc.ic")?;
+    unknown_is(rt, alloc, flat, 7, Unknown::Reference(1), "rc.n2'reference")?;
+    unknown_is(rt, alloc, flat, 8, Unknown::Dot(0), "rc.vc'dot")
+}
+
+fn answers_are_right(rt: &impl Abort, alloc: Global, flat: &Flat) -> Result<(), AllocError> {
+    lists_are_those_that_were_built(rt, flat);
+    equations_have_their_names(rt, alloc, flat)?;
+    unknowns_have_numbers_and_names(rt, alloc, flat)
+}
+
 #[test]
-fn unknowns_have_numbers_and_names(rt: HostRuntime) -> Result<(), Fail> {
+fn the_design_is_the_one_that_was_built(rt: HostRuntime) -> Result<(), Fail> {
     let flat = resistor_and_capacitor(&rt, rt.alloc())?;
-    let rows = [
-        (0, Unknown::Quantity(0), "rc.v"),
-        (5, Unknown::Quantity(5), "rc.ic"),
-        (7, Unknown::Reference(1), "rc.n2'reference"),
-        (8, Unknown::Dot(0), "rc.vc'dot"),
-    ];
-    for (number, unknown, path) in rows {
-        assert_eq!(rt; flat.number_of(unknown), number);
-        assert!(rt; number < flat.unknown_count());
-        assert_eq!(rt; flat.unknown_at(number), unknown);
-        let name = flat.unknown_name(rt.alloc(), unknown)?;
-        assert_eq!(rt; name.as_slice(), path.as_bytes());
-    }
+    answers_are_right(&rt, rt.alloc(), &flat)?;
+    Ok(())
+}
+
+#[test]
+fn constraints_hold_of_their_values(rt: HostRuntime) -> Result<(), Fail> {
+    let natural = Constraint::Integer(0, 7);
+    assert!(rt; natural.holds(Val::Int(7)) && !natural.holds(Val::Int(8)));
+    assert!(rt; Constraint::Whole.holds(Val::Int(-1)));
     Ok(())
 }
 
