@@ -12,7 +12,7 @@ use Rattle.ams_value.specs.declared.val.Val.TheVariants as val
 use Rattle.ams_value.specs.declared.value_type.ValueType.{ValueType}
 use Rattle.ams_value.specs.declared.value_type.ValueType.TheVariants as t
 use Rattle.flat_expr.specs.declared.subtype.Constraint.{Constraint}
-use Rattle.flat_expr.specs.declared.subtype.Constraint.TheVariants.{Whole as All}
+use Rattle.flat_expr.specs.declared.subtype.Constraint.TheVariants.{Whole as Unconstrained}
 use Rattle.flat_design.specs.declared.objects.Objects.{Objects}
 use Rattle.flat_design.specs.declared.objects.Terminal.{Terminal}
 use Rattle.flat_design.specs.declared.objects.Terminal.TheVariants as terminal
@@ -86,7 +86,7 @@ value_or_leftmost s None = leftmost s
 
 abbrev pub range_part : SubtypeConstraint → Constraint
 range_part (constraint.Range c) = c
-range_part _ = All
+range_part _ = Unconstrained
 
 abbrev pub with_signal : List (List ℕ) → Valued → Name → Book → Book
 with_signal texts v x b =
@@ -251,7 +251,7 @@ literals_from type position [] b = b
 literals_from type position (x ∷ more) b = literals_from type (position + 1) more (declared (thing.Literal (val.Enum type position)) x b)
 
 abbrev pub of_enumeration : ℕ → Subtype
-of_enumeration type = record { kind = Of (t.Enumeration type); constraint = constraint.Range All }
+of_enumeration type = record { kind = Of (t.Enumeration type); constraint = constraint.Range Unconstrained }
 
 abbrev pub enumeration : List (List ℕ) → Place → Name → List Name → Book → Book
 enumeration texts place name literals b =
