@@ -1,0 +1,5 @@
+pub mod Held
+pub mod MoveLaws
+pub mod Moves
+pub mod NextLaws
+pub mod Ready
