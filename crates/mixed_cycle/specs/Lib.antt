@@ -3,3 +3,4 @@ pub mod MoveLaws
 pub mod Moves
 pub mod NextLaws
 pub mod Ready
+pub mod RunLaws

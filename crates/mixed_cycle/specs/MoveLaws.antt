@@ -1,5 +1,5 @@
 -- The moves of the engine are those of the walk of the run that is left.
-use Rattle.std.specs.Prelude.{◌≡◌, ℕ, ◌&&◌, ◌||◌, Bool, true, false, not, cond, List, [], refl}
+use Rattle.std.specs.Prelude.{◌≡◌, ℕ, ◌&&◌, ◌||◌, Bool, true, false, not, cond, [], refl}
 use Rattle.std.proofs.Common.{ap, sym, subst, ◌∙◌}
 use Rattle.step_data.specs.declared.tip.Tip.{Tip}
 use Rattle.step_data.specs.declared.outcome.End.{End}
@@ -10,12 +10,12 @@ use Rattle.lockstep_model.specs.declared.moves.Moved.TheVariants as says
 use Rattle.lockstep_model.specs.RunStates.{RunState}
 use Rattle.lockstep_model.specs.Works.{Run, Work, Worked, Tried}
 use Rattle.lockstep_model.specs.Walk as w
-use Rattle.lockstep_model.specs.Walk.{Walk, Move, Awaited, Ready, Looking, Settling, Broken, Reply, NoReply, Here, Nothing, Consumed}
+use Rattle.lockstep_model.specs.Walk.{Move, Awaited, Ready, Looking, Settling, Broken, Reply, NoReply, Here, Nothing, Consumed}
 use Rattle.mixed_cycle.specs.Held.{Held, Step, Decides, Makes, Stops, rest_of, run_of, next_of}
 use Rattle.mixed_cycle.specs.NextLaws.{next_is}
 use Rattle.mixed_cycle.specs.Ready.{ready, IsReady, ready_is, ready_ready}
 use Rattle.mixed_cycle.specs.Moves as moves
-use Rattle.mixed_cycle.specs.Moves.{Moment, Moving, walk_with, walk_of, move_of, IsTried, AheadOf, IsAhead}
+use Rattle.mixed_cycle.specs.Moves.{Moment, walk_with, walk_of, move_of, IsTried, AheadOf, IsAhead}
 
 -- the moves of a moment's walk, where another run is left
 abbrev proceeds : Moment → Run → Move

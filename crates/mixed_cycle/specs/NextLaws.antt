@@ -1,5 +1,5 @@
 -- What the engine does next is the next thing of the run that is left.
-use Rattle.std.specs.Prelude.{◌≡◌, ℕ, zero, suc, ◌==◌, Bool, true, false, not, nat_le, ℤ, List, [], Result, Ok, Err, refl}
+use Rattle.std.specs.Prelude.{◌≡◌, ℕ, zero, suc, ◌==◌, Bool, true, false, not, nat_le, ℤ, List, Result, Ok, Err, refl}
 use Rattle.std.proofs.Common.{ap}
 use Rattle.step_data.specs.declared.tip.Attempt.{Attempt}
 use Rattle.step_data.specs.declared.outcome.Cause.{Cause}
@@ -14,7 +14,7 @@ use Rattle.lockstep_model.specs.Crossing.{Bounds, differs, is_near}
 use Rattle.lockstep_model.specs.Lockstep as l
 use Rattle.lockstep_model.specs.Lockstep.{AttemptEnd, PhaseStep, Following, goes_on, phase, locate}
 use Rattle.mixed_cycle.specs.Held as h
-use Rattle.mixed_cycle.specs.Held.{Stage, Held, Step, begun, crossed, rest_of, rest_by, run_of, next_of, next_by}
+use Rattle.mixed_cycle.specs.Held.{Stage, Held, begun, crossed, rest_of, rest_by, run_of, next_of, next_by}
 
 begin-is : (sys : System) (c n : ℕ) (to_time : Bool) (p : RunState) → begun sys c n to_time p ≡ rest_of sys (h.begin c n to_time p)
 begin-is sys zero n to_time p = refl

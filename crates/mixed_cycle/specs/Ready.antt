@@ -2,12 +2,10 @@
 use Rattle.std.specs.Prelude.{◌≡◌, ℕ, zero, suc, ◌<◌, ◌≤◌, ◌⊎◌, ◌==◌, Bool, true, false, not, nat_le, ℤ, List, Result, Ok, Err, refl}
 use Rattle.std.proofs.Common.{arith, sym, subst, inl, inr, ◌∙◌}
 use Rattle.step_data.specs.declared.outcome.Cause.{Cause}
-use Rattle.step_data.specs.declared.outcome.End.{End}
 use Rattle.step_data.specs.declared.outcome.Ran.{Ran}
 use Rattle.step_data.specs.declared.outcome.Ran.TheVariants as rans
 use Rattle.step_model.specs.System.{System, Landing}
 use Rattle.lockstep_model.specs.RunStates.{RunState}
-use Rattle.lockstep_model.specs.Works.{Work}
 use Rattle.lockstep_model.specs.Crossing.{Bounds, differs, is_near}
 use Rattle.lockstep_model.specs.Lockstep as l
 use Rattle.lockstep_model.specs.Lockstep.{PhaseStep, Following}

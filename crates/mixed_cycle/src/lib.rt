@@ -1,13 +1,19 @@
 //! The mixed cycle: where the engine stands within a run, and what it does next. The functions here are laws.
 #![tactic(auto)]
 
-ghost use Rattle.std.specs.Prelude.{◌≡◌};
+ghost use Rattle.std.specs.Prelude.{◌≡◌, ◌≢◌, List};
+ghost use Rattle.ams_value.specs.declared.val.Val.{Val};
+ghost use Rattle.step_data.specs.declared.tip.Tip.{Tip};
+ghost use Rattle.step_data.specs.declared.tip.Attempt.{Attempt};
+ghost use Rattle.step_data.specs.declared.outcome.End.{End};
 ghost use Rattle.step_model.specs.System.{System};
+ghost use Rattle.lockstep_model.specs.declared.moves.Moved.TheVariants.{Ended};
 ghost use Rattle.lockstep_model.specs.Lockstep.{lockstep};
 ghost use Rattle.mixed_cycle.specs.Held.{Held, rest_of, run_of, next_of, first_held};
 ghost use Rattle.mixed_cycle.specs.Ready.{ready, IsReady};
 ghost use Rattle.mixed_cycle.specs.Moves.{Moment, walk_of, move_of, moving, first_moment, IsAhead};
-ghost use Rattle.lockstep_model.specs.Walk.{Reply, LooksAhead, first_walk, moved};
+ghost use Rattle.lockstep_model.specs.Walk.{Reply, Broken, Fits, Keeps, Costs, Begins, LooksAhead, first_walk, moved};
+ghost use Rattle.mixed_cycle.specs.RunLaws.{ends_with};
 
 /// Before the start the whole run is left. It is proved, and does nothing when it runs.
 pub fn all_is_left()
@@ -38,4 +44,20 @@ pub fn moves_walk()
     ensures walk { (sys : System) (m : Moment) (reply : Reply) → IsAhead sys m → move_of sys (moving sys m reply) ≡ moved (walk_of sys m) reply }
     ensures ahead { (sys : System) (m : Moment) (reply : Reply) → IsAhead sys (moving sys m reply).moment }
     ensures looks { (sys : System) (m : Moment) → IsAhead sys m → LooksAhead m.awaited (walk_of sys m).works }
+{}
+
+/// A move keeps the run, and spends what the walk's does: the events go on and the end stays; an attempt is found or its
+/// own, and the moves come to an end; begins are few. It is proved, and does nothing when it runs.
+pub fn moves_keep_the_run()
+    ensures keeps { (sys : System) (m : Moment) (reply : Reply) → IsAhead sys m → Keeps (walk_of sys m) (move_of sys (moving sys m reply)) }
+    ensures costs { (attempt : List Val → Tip → Attempt) (sys : System) (m : Moment) (reply : Reply) →
+        IsAhead sys m → m.awaited ≢ Broken → Fits attempt (walk_of sys m) m.awaited reply → Costs (walk_of sys m) reply (move_of sys (moving sys m reply)) }
+    ensures begins { (attempt : List Val → Tip → Attempt) (sys : System) (m : Moment) (reply : Reply) →
+        IsAhead sys m → m.awaited ≢ Broken → Fits attempt (walk_of sys m) m.awaited reply → Begins (walk_of sys m) reply (move_of sys (moving sys m reply)) }
+{}
+
+/// Once the end was told, every later move tells it again and changes nothing. It is proved, and does nothing when it runs.
+pub fn ends_stay()
+    ensures { (sys : System) (m : Moment) (reply later : Reply) (e : End) →
+        (moving sys m reply).says ≡ Ended e → moving sys (moving sys m reply).moment later ≡ ends_with e (moving sys m reply).moment }
 {}
