@@ -1,5 +1,5 @@
 -- Bits of a number of 64 bits.
-use Rattle.std.proofs.Common.{◌≡◌, ℕ, ◌/◌, ◌%◌, ◌^◌, ◌<◌, ◌≤◌, arith}
+use Rattle.std.proofs.Common.{◌≡◌, ℕ, ◌/◌, ◌^◌, ◌<◌, ◌≤◌, arith}
 use Rattle.std.proofs.Math.Nat.{div-eq_of_lt}
 use Rattle.ams_value.proofs.Vectors.{grow, power_pos}
 

@@ -1,12 +1,12 @@
 -- The parts of an expression that can be evaluated can be evaluated, and operators take their values.
-use Rattle.std.proofs.Common.{◌≡◌, ℕ, Bool, true, false, Option, Some, None, Result, Ok, Err, List, IsTrue, refl, sym, ap, subst, ◌∙◌}
+use Rattle.std.proofs.Common.{◌≡◌, ℕ, Bool, true, false, Option, Some, None, Ok, List, refl, sym, ap, subst, ◌∙◌}
 use Rattle.std.specs.Prelude.{◌||◌, IsSome}
 use Rattle.ams_value.specs.declared.op.UnaryOperator.{UnaryOperator}
 use Rattle.ams_value.specs.declared.op.BinaryOperator.{BinaryOperator}
 use Rattle.ams_value.specs.declared.val.Val.{Val}
 use Rattle.ams_value.specs.declared.value_type.ValueType.{ValueType}
 use Rattle.ams_value.specs.declared.value_type.ValueType.TheVariants.{Integer, BitVector}
-use Rattle.ams_value.specs.Types.{type_of, is_in_range, unary_type, binary_type, IsTypedUnary, IsTypedBinary}
+use Rattle.ams_value.specs.Types.{type_of, unary_type, binary_type, IsTypedUnary, IsTypedBinary}
 use Rattle.ams_value.specs.Laws.{value_of_in_range}
 use Rattle.flat_expr.specs.declared.expr.SignalName.{SignalName}
 use Rattle.flat_expr.specs.declared.expr.IndexRange.{IndexRange}
@@ -18,10 +18,9 @@ use Rattle.flat_expr.specs.declared.expr.FlatExpr.TheVariants as e
 use Rattle.flat_expr.specs.declared.expr.FlatExpr.TheVariants.{rolls-Unary, rolls-Binary, rolls-Call, rolls-Index}
 use Rattle.flat_expr.specs.declared.expr.FlatExpr.TheFolds.{fold-roll-FlatExpr}
 use Rattle.flat_expr.specs.Expr.{reads_at, reads_in}
-use Rattle.design_meaning.specs.declared.fault.EvalFault.{EvalFault}
 use Rattle.design_meaning.specs.Readings.{Readings}
 use Rattle.design_meaning.specs.Value.{value_of}
-use Rattle.design_meaning.specs.Typed.{Scope, HasType, IsOfType, typed, type_at, agreed, unary_result, binary_result, call_type, element_type}
+use Rattle.design_meaning.specs.Typed.{Scope, IsOfType, typed, type_at, agreed, unary_result, binary_result, call_type, element_type}
 use Rattle.value_types.specs.Typing.{ReadsFor}
 use Rattle.value_types.proofs.Types.{agreed_is}
 use Rattle.value_types.proofs.Typing.{read_values_are_typed}

@@ -1,4 +1,4 @@
-use Rattle.std.proofs.Common.{arith, rules, ◌≡◌, ◌∙◌, sym, ap, subst, ◌<◌}
+use Rattle.std.proofs.Common.{arith, ◌∙◌, sym, ap, subst}
 use Rattle.flat_expr.specs.declared.expr.FlatExpr.TheViews as view
 use Rattle.flat_expr.proofs.expr.FlatExpr.TheLaws.{the_size}
 use Rattle.design_meaning.specs.Value.{value_of}
