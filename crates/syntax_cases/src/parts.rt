@@ -2,7 +2,8 @@
 
 use ams_lexer::lex;
 use ams_spell::{spell_concurrent, spell_declaration, spell_statement};
-use ams_token::{Token, TokenKind};
+use ams_token::{Token, TokenKind, Tokens};
+use ams_tree::{Concurrent, Declaration, Seq};
 use parse_conc::concurrent;
 use parse_decl::declaration;
 use parse_seq::statement;
@@ -19,35 +20,71 @@ pub fn count(tokens: &[Token], kinds: &[TokenKind]) -> Option<Result<usize, Pars
     if same { Some(Ok(kinds.len())) } else { None }
 }
 
+/// Whether a declaration of an architecture is spelled by the kinds of its tokens.
+fn spelled_declaration(
+    alloc: Global,
+    tokens: &Tokens,
+    tree: &Declaration,
+) -> Option<Result<usize, ParseFault>> {
+    let kinds = spell_declaration(alloc, tree).ok()?;
+    count(tokens.list.as_slice(), kinds.as_slice())
+}
+
+fn declaration_of(alloc: Global, tokens: &Tokens) -> Option<Result<usize, ParseFault>> {
+    match declaration(alloc, tokens, 0, 0) {
+        Ok((tree, _)) => spelled_declaration(alloc, tokens, &tree),
+        Err(fault) => Some(Err(fault)),
+    }
+}
+
 /// What a declaration of an architecture is read as.
 pub fn read_declaration(alloc: Global, row: &str) -> Option<Result<usize, ParseFault>> {
     let tokens = lex(alloc, row.as_bytes()).ok()?;
-    let tree = match declaration(alloc, &tokens, 0, 0) {
-        Ok((tree, _)) => tree,
-        Err(fault) => return Some(Err(fault)),
-    };
-    let kinds = spell_declaration(alloc, &tree).ok()?;
+    declaration_of(alloc, &tokens)
+}
+
+/// Whether a sequential statement is spelled by the kinds of its tokens.
+fn spelled_statement(
+    alloc: Global,
+    tokens: &Tokens,
+    tree: &Seq,
+) -> Option<Result<usize, ParseFault>> {
+    let kinds = spell_statement(alloc, tree).ok()?;
     count(tokens.list.as_slice(), kinds.as_slice())
+}
+
+fn statement_of(alloc: Global, tokens: &Tokens) -> Option<Result<usize, ParseFault>> {
+    match statement(alloc, tokens, 0, 0) {
+        Ok((tree, _)) => spelled_statement(alloc, tokens, &tree),
+        Err(fault) => Some(Err(fault)),
+    }
 }
 
 /// What a sequential statement is read as.
 pub fn read_statement(alloc: Global, row: &str) -> Option<Result<usize, ParseFault>> {
     let tokens = lex(alloc, row.as_bytes()).ok()?;
-    let tree = match statement(alloc, &tokens, 0, 0) {
-        Ok((tree, _)) => tree,
-        Err(fault) => return Some(Err(fault)),
-    };
-    let kinds = spell_statement(alloc, &tree).ok()?;
+    statement_of(alloc, &tokens)
+}
+
+/// Whether a concurrent statement is spelled by the kinds of its tokens.
+fn spelled_concurrent(
+    alloc: Global,
+    tokens: &Tokens,
+    tree: &Concurrent,
+) -> Option<Result<usize, ParseFault>> {
+    let kinds = spell_concurrent(alloc, tree).ok()?;
     count(tokens.list.as_slice(), kinds.as_slice())
+}
+
+fn concurrent_of(alloc: Global, tokens: &Tokens) -> Option<Result<usize, ParseFault>> {
+    match concurrent(alloc, tokens, 0, 0) {
+        Ok((tree, _)) => spelled_concurrent(alloc, tokens, &tree),
+        Err(fault) => Some(Err(fault)),
+    }
 }
 
 /// What a concurrent statement is read as.
 pub fn read_concurrent(alloc: Global, row: &str) -> Option<Result<usize, ParseFault>> {
     let tokens = lex(alloc, row.as_bytes()).ok()?;
-    let tree = match concurrent(alloc, &tokens, 0, 0) {
-        Ok((tree, _)) => tree,
-        Err(fault) => return Some(Err(fault)),
-    };
-    let kinds = spell_concurrent(alloc, &tree).ok()?;
-    count(tokens.list.as_slice(), kinds.as_slice())
+    concurrent_of(alloc, &tokens)
 }
