@@ -94,15 +94,15 @@ parenthesized place (Some a) n = (n, Some (record { place = place; kind = a.kind
 -- ---- values that are asked before the run
 
 -- a fault of its evaluation is one of the expression
-abbrev pub settled : Place → Kind → StaticValue → Notes → Notes × Option Asked
-settled place k (known.Known v) n = (n, Some (record { kind = k; value = Some v }))
-settled place k known.Faulty n = (noted place WrongType n, None)
-settled place k known.Later n = (n, Some (record { kind = k; value = None }))
-settled place k known.Changing n = (n, Some (record { kind = k; value = None }))
+abbrev pub asked_value : Place → Kind → StaticValue → Notes → Notes × Option Asked
+asked_value place k (known.Known v) n = (n, Some (record { kind = k; value = Some v }))
+asked_value place k known.Faulty n = (noted place WrongType n, None)
+asked_value place k known.Later n = (n, Some (record { kind = k; value = None }))
+asked_value place k known.Changing n = (n, Some (record { kind = k; value = None }))
 
 abbrev pub asked : Option Typed → Notes → Notes × Option Asked
 asked None n = (n, None)
-asked (Some t) n = settled t.place t.kind t.value n
+asked (Some t) n = asked_value t.place t.kind t.value n
 
 abbrev pub static_in : Context → Context
 static_in c = record { surrounding = c.surrounding; is_static = true }

@@ -59,13 +59,13 @@ same_place p q = nat_eq p.line q.line && nat_eq p.column q.column
 abbrev pub is_before : Fault → Fault → Bool
 is_before f g = stands_before f.place g.place || (same_place f.place g.place && nat_lt (code_of f.cause) (code_of g.cause))
 
-abbrev pub earlier : Option Fault → Fault → Option Fault
-earlier None f = Some f
-earlier (Some g) f = if is_before f g then Some f else Some g
+abbrev pub first_of : Option Fault → Fault → Option Fault
+first_of None f = Some f
+first_of (Some g) f = if is_before f g then Some f else Some g
 
 -- the first of those that a stage answers
 abbrev pub if_told : (Cause → Bool) → Option Fault → Fault → Option Fault
-if_told tells first f = if tells f.cause then earlier first f else first
+if_told tells first f = if tells f.cause then first_of first f else first
 
 abbrev pub first_fault : (Cause → Bool) → List Fault → Option Fault
 first_fault tells faults = fold (if_told tells) None faults

@@ -19,14 +19,14 @@ use name_scope::{Kind, Scope, Thing};
 use sqlite_items::{Boxed, Items};
 use std::alloc::{AllocError, Global};
 
-fn settled(
+fn asked_value(
     place: Place,
     kind: Kind,
     value: &StaticValue,
     notes: &mut Notes,
 ) -> Result<Option<Asked>, AllocError>
     requires { OnKnown (IsKind kind) value.now }
-    ensures found { Finds (spec.settled place kind value.now notes.old) result notes.new }
+    ensures found { Finds (spec.asked_value place kind value.now notes.old) result notes.new }
     ensures sound { IfOk result (λ a. IfSome a IsSoundAsked) }
 {
     match value {
@@ -50,7 +50,7 @@ pub fn asked(found: &Option<Typed>, notes: &mut Notes) -> Result<Option<Asked>, 
 {
     match found {
         None => Ok(None),
-        Some(typed) => settled(typed.place, typed.kind, &typed.value, notes),
+        Some(typed) => asked_value(typed.place, typed.kind, &typed.value, notes),
     }
 }
 

@@ -3,6 +3,7 @@ use Rattle.std.specs.Prelude.{ℕ, ℤ, pos, ◌≡◌, ◌+◌, ◌-◌, ◌*�
 use Rattle.std.specs.List.{list_all, list_any}
 use Rattle.std.specs.Char.{is_ascii_lowercase, is_ascii_digit}
 use Rattle.decimal_digits.specs.Decimal.{is_digits, value_of_digits}
+use Rattle.fix_core.specs.Units.{units_per_one}
 
 -- a quantity's name, and the digits before and behind the point of its literal
 pub record Part : Type 0 where
@@ -67,7 +68,7 @@ pub record IsDesign (top : List ℕ) (design : Design) : Type 0 where
 
 -- what a literal is worth, in units of 10^-12
 abbrev pub literal_units : List ℕ → List ℕ → ℕ
-literal_units whole decimals = value_of_digits whole * 1000000000000 + value_of_digits decimals * 10 ^ (12 - length decimals)
+literal_units whole decimals = value_of_digits whole * units_per_one + value_of_digits decimals * 10 ^ (12 - length decimals)
 
 -- a quantity's name and value
 pub record Named : Type 0 where

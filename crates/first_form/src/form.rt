@@ -2,12 +2,13 @@ ghost use Rattle.std.specs.Prelude.{List, ◌≡◌, ◌+◌, ◌<◌, ◌≤◌
 ghost use Rattle.std.specs.List.{list_any};
 ghost use Rattle.std.specs.Char.{is_ascii_digit};
 ghost use Rattle.decimal_digits.specs.Decimal.{is_digits};
+ghost use Rattle.fix_core.specs.Units.{most_units};
 ghost use Rattle.first_form.specs.Form.{Named, is_name, all_differ, literal_units, IsForm};
 ghost use Rattle.first_form.specs.Quantity.{shown};
 ghost use Rattle.first_form.specs.Reading.{Gives, skip, digit_count, digits_at, name_at, literal_at, declaration_at, declarations_at, equation_at, equations_at, head_at, names_fit, tail_at, reading};
 
 use decimal_digits::{are_digits, value_of_digits};
-use fix_core::Fix;
+use fix_core::{Fix, UNITS_PER_ONE};
 use std::alloc::{AllocError, AllocFailed, Global};
 use std::marker::Model;
 
@@ -73,9 +74,6 @@ impl Form {
     }
 }
 
-// One, in units.
-const ONE: u128 = 1_000_000_000_000;
-
 // What is behind a word.
 #[tactic(auto, using(crate::proofs::ReadingLemmas::skip_rules))]
 fn skip<'a>(text: &'a [u8], word: &[u8]) -> Option<&'a [u8]>
@@ -126,14 +124,15 @@ fn units_of(whole: &[u8], decimals: &[u8]) -> u128
     requires whole { is_digits 12 whole.now ≡ true }
     requires decimals { is_digits 12 decimals.now ≡ true }
     ensures value { result ≡ literal_units whole.now decimals.now }
-    ensures bound { result < 1000000000000000000000000 }
+    ensures bound { result < most_units }
 {
     let scale = 10u128.pow(12 - decimals.len() as u32);
-    u128::from(value_of_digits(whole)) * ONE + u128::from(value_of_digits(decimals)) * scale
+    u128::from(value_of_digits(whole)) * UNITS_PER_ONE
+        + u128::from(value_of_digits(decimals)) * scale
 }
 
 fn fix_of(units: u128) -> Fix
-    requires { units < 1000000000000000000000000 }
+    requires { units < most_units }
     ensures { result ≡ pos units }
 {
     Fix::exactly(units as i128)
@@ -143,7 +142,7 @@ fn fix_of(units: u128) -> Fix
 #[tactic(auto, unfolding(crate::specs::Reading::literal_at))]
 fn literal_of(text: &[u8]) -> Option<(u128, &[u8])>
     ensures value { option_map (λ x. (x.0, x.1.now)) result ≡ literal_at text.now }
-    ensures bound { IfSome result (λ x. x.0 < 1000000000000000000000000) }
+    ensures bound { IfSome result (λ x. x.0 < most_units) }
 {
     let (whole, rest) = digits_of(12, text)?;
     let rest = skip(rest, b".")?;
@@ -197,7 +196,7 @@ fn declarations(alloc: Global, text: &[u8]) -> Result<(Vec<&[u8]>, &[u8]), Alloc
 #[tactic(auto, unfolding(crate::specs::Reading::equation_at))]
 fn equation_of<'a>(name: &[u8], text: &'a [u8]) -> Option<(u128, &'a [u8])>
     ensures value { option_map (λ x. (record { name = name.now; value = pos x.0 }, x.1.now)) result ≡ equation_at name.now text.now }
-    ensures bound { IfSome result (λ x. x.0 < 1000000000000000000000000) }
+    ensures bound { IfSome result (λ x. x.0 < most_units) }
 {
     let rest = skip(text, name)?;
     let rest = skip(rest, b" == ")?;

@@ -6,6 +6,7 @@ ghost use Rattle.number_ratio.specs.Ratios.{factor_of, divisor_of};
 
 use crate::ONE;
 use crate::ways::{Division, Estimate, Multiple, Way};
+use fix_core::UNITS_PER_ONE;
 
 /// The greatest power of a prime that divides `n`, at most the twelfth.
 #[inline(always)]
@@ -31,7 +32,7 @@ fn power_in(prime: u64, n: u64) -> u64
 pub fn common(n: u128) -> u64
     ensures { 0 < result }
 {
-    let rest = (n % u128::from(ONE)) as u64;
+    let rest = (n % UNITS_PER_ONE) as u64;
     if rest == 0 {
         return ONE;
     }

@@ -10,12 +10,12 @@ mod chosen;
 mod ways;
 
 use chosen::{common, prepared};
-use fix_core::{Fix, NumFault};
+use fix_core::{Fix, NumFault, UNITS_PER_ONE};
 use std::marker::Model;
 use ways::Way;
 
 /// The units of 1.0.
-const ONE: u64 = 1_000_000_000_000;
+const ONE: u64 = UNITS_PER_ONE as u64;
 
 /// A factor or divisor with all that its products or quotients need.
 #[derive(Drop)]
@@ -66,7 +66,7 @@ impl Ratio {
         ensures { result ≡ Factor f }
     {
         let numerator = f.magnitude();
-        let way = prepared(numerator, u128::from(ONE), common(numerator));
+        let way = prepared(numerator, UNITS_PER_ONE, common(numerator));
         Ratio {
             way,
             negative: f.units() < 0,
@@ -80,7 +80,7 @@ impl Ratio {
         ensures { result ≡ Divisor d }
     {
         let denominator = d.magnitude();
-        let way = prepared(u128::from(ONE), denominator, common(denominator));
+        let way = prepared(UNITS_PER_ONE, denominator, common(denominator));
         Ratio {
             way,
             negative: d.units() < 0,

@@ -1,6 +1,7 @@
 -- The text of the trace, line by line.
 use Rattle.std.specs.Prelude.{ℕ, ◌+◌, Bool, List, [], ◌∷◌, ◌++◌, if◌then◌else◌, map, flat_map, codes, decimal}
 use Rattle.fix_core.specs.Text.{text_of}
+use Rattle.message_codes.specs.Codes.{attempt_limit}
 use Rattle.first_form.specs.Form.{Named, joined}
 use Rattle.run_words.specs.Words.{Request}
 use Rattle.port_base.specs.Lines.{text_of_lines}
@@ -26,7 +27,7 @@ point_line t n values = joined (codes "P " ∷ decimal t ∷ codes " " ∷ decim
 
 -- `E t` where the stop time is reached, else the refusal for too many steps
 unfoldable pub last_line : Bool → ℕ → List ℕ
-last_line is_reached stop = if is_reached then joined (codes "E " ∷ decimal stop ∷ codes "\n" ∷ []) else codes "F 0 76\n"
+last_line is_reached stop = if is_reached then joined (codes "E " ∷ decimal stop ∷ codes "\n" ∷ []) else joined (codes "F 0 " ∷ decimal attempt_limit ∷ codes "\n" ∷ [])
 
 -- a line for each unknown, numbered from there
 abbrev pub unknown_lines : List ℕ → ℕ → List Named → List (List ℕ)

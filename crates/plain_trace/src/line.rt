@@ -7,6 +7,7 @@ ghost use Rattle.plain_trace.specs.Trace.{header_line, unknown_line, values_text
 use first_form::Quantity;
 use fix_core::Fix;
 use itoa::Buffer;
+use message_codes::ATTEMPT_LIMIT;
 use run_words::Settings;
 use std::alloc::{AllocError, Global};
 
@@ -103,11 +104,12 @@ pub fn point_line(alloc: Global, t: u64, n: u64, values: &[u8]) -> Result<Vec<u8
 pub fn last_line(alloc: Global, is_reached: bool, stop: u64) -> Result<Vec<u8>, AllocError>
     ensures { IfOk result (λ line. line.items ≡ last_line is_reached stop) }
 {
-    if !is_reached {
-        return Vec::from_slice(alloc, b"F 0 76\n");
-    }
-    let mut line = Vec::from_slice(alloc, b"E ")?;
-    push_number(&mut line, stop)?;
+    let (mut line, number) = if is_reached {
+        (Vec::from_slice(alloc, b"E ")?, stop)
+    } else {
+        (Vec::from_slice(alloc, b"F 0 ")?, u64::from(ATTEMPT_LIMIT))
+    };
+    push_number(&mut line, number)?;
     line.extend_from_slice(b"\n")?;
     Ok(line)
 }
