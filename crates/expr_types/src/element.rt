@@ -19,6 +19,7 @@ use ams_tree::Name;
 use ams_value::{Val, ValueType};
 use elab_meaning::{Context, Notes, StaticValue, Typed};
 use flat_expr::{Direction, FlatExpr, Function, IndexRange};
+use held_value::Held;
 use name_scope::{Kind, Subtype, SubtypeConstraint, Thing};
 use sqlite_items::Items;
 use std::alloc::{AllocError, Global};
@@ -209,8 +210,12 @@ fn element_of_name(
     ensures found { Finds (spec.element_of_name context name subtype.now index thing.now notes.old) result notes.new }
     ensures sound { IfOk result (λ t. IfSome t IsSound) }
 {
+    let index = Held::new(index);
     match thing_named(context, name, thing, notes)? {
-        Some(vector) => Ok(Some(element(alloc, name.place, subtype, vector, index)?)),
+        Some(vector) => {
+            let index = index.into_inner();
+            Ok(Some(element(alloc, name.place, subtype, vector, index)?))
+        }
         None => Ok(None),
     }
 }
@@ -233,10 +238,14 @@ fn indexed(
             if is_vector(subtype.kind) && same_kind(index.kind, Kind::Of(ValueType::Integer)) {
                 element_of_name(alloc, context, name, thing, &subtype, index, notes)
             } else {
+                drop(index);
                 wrong(notes, name.place)
             }
         }
-        None => wrong(notes, name.place),
+        None => {
+            drop(index);
+            wrong(notes, name.place)
+        }
     }
 }
 

@@ -2,6 +2,7 @@
 ghost use Rattle.std.specs.Prelude.{◌≡◌, Some, IfOk, IfSome};
 ghost use Rattle.flat_expr.specs.declared.expr.FlatExpr.TheVariants as e;
 ghost use Rattle.elab_meaning.specs.Expressions as spec;
+ghost use Rattle.elab_meaning.specs.Notes as noted;
 ghost use Rattle.elab_meaning.specs.Kinds.{unary_kind, binary_kind, value_type};
 ghost use Rattle.elab_meaning.specs.Values.{unary_value, joined_value};
 ghost use Rattle.elab_meaning.specs.declared.fault.Notes.{Notes};
@@ -103,7 +104,10 @@ pub fn unary_at(
     let op = prefix(op);
     match unary_kind(op, operand.kind) {
         Some(kind) => Ok(Some(prefixed(alloc, op, place, operand, kind)?)),
-        None => wrong(notes, place),
+        None => {
+            drop(operand);
+            wrong(notes, place)
+        }
     }
 }
 
@@ -132,6 +136,17 @@ fn joined(
     })
 }
 
+/// Two operands that the operator between them has no meaning for.
+fn unfit(left: Typed, right: Typed, notes: &mut Notes) -> Result<Option<Typed>, AllocError>
+    ensures found { Finds (noted.wrong left.place notes.old) result notes.new }
+    ensures sound { IfOk result (λ t. IfSome t IsSound) }
+{
+    let place = left.place;
+    drop(left);
+    drop(right);
+    wrong(notes, place)
+}
+
 /// An operator between two expressions; none where one of them breaks a rule.
 pub fn binary_at(
     alloc: Global,
@@ -146,15 +161,17 @@ pub fn binary_at(
     ensures sound { IfOk result (λ t. IfSome t IsSound) }
 {
     let Some(left) = left else {
+        drop(right);
         return Ok(None);
     };
     let Some(right) = right else {
+        drop(left);
         return Ok(None);
     };
     let op = infix_of(op);
     match binary_kind(op, left.kind, right.kind) {
         Some(kind) => Ok(Some(joined(alloc, op, left, right, kind)?)),
-        None => wrong(notes, left.place),
+        None => unfit(left, right, notes),
     }
 }
 

@@ -15,6 +15,7 @@ use crate::operator::{binary_at, parenthesized, unary_at};
 use ams_token::{Names, Place};
 use ams_tree::{Attribute, Expr, Name};
 use elab_meaning::{Asked, Cause, Context, Notes, StaticValue, Typed};
+use held_value::Held;
 use name_scope::{Kind, Scope, Thing};
 use sqlite_items::{Boxed, Items};
 use std::alloc::{AllocError, Global};
@@ -123,7 +124,9 @@ fn time_of(
         None => Ok(true),
         Some(expr) => {
             let found = expression(alloc, names, scope, static_in(context), expr.get(), notes)?;
-            is_fine(&found, notes)
+            let fine = is_fine(&found, notes);
+            drop(found);
+            fine
         }
     }
 }
@@ -148,7 +151,9 @@ fn attribute(
         Attribute::Reference => reference_at(context, name, &scope.find(name.number), notes),
         Attribute::Above(level) => {
             let found = expression(alloc, names, scope, static_in(context), level.get(), notes)?;
-            above_found(context, name, &scope.find(name.number), &found, notes)
+            let answer = above_found(context, name, &scope.find(name.number), &found, notes);
+            drop(found);
+            answer
         }
         Attribute::Ramp(rise, fall) => {
             let rises = time_of(alloc, names, scope, context, rise, notes)?;
@@ -163,6 +168,7 @@ fn put(all: Option<Items<Typed>>, found: Option<Typed>) -> Result<Option<Items<T
     ensures { IfOk result (λ now. now ≡ spec.put all found) }
 {
     let Some(mut all) = all else {
+        drop(found);
         return Ok(None);
     };
     let Some(found) = found else {
@@ -229,9 +235,9 @@ pub fn expression(
             unary_at(alloc, *op, *place, operand, notes)
         }
         Expr::Binary(op, left, right) => {
-            let left = expression(alloc, names, scope, context, left.get(), notes)?;
+            let left = Held::new(expression(alloc, names, scope, context, left.get(), notes)?);
             let right = expression(alloc, names, scope, context, right.get(), notes)?;
-            binary_at(alloc, *op, left, right, notes)
+            binary_at(alloc, *op, left.into_inner(), right, notes)
         }
     }
 }
@@ -250,5 +256,7 @@ pub fn static_value(
     ensures sound { IfOk result (λ a. IfSome a IsSoundAsked) }
 {
     let found = expression(alloc, names, scope, static_in(context), expr, notes)?;
-    asked(&found, notes)
+    let answer = asked(&found, notes);
+    drop(found);
+    answer
 }

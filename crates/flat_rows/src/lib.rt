@@ -2,4 +2,14 @@
 #![tactic(auto)]
 
 #[cfg(test)]
+mod build;
+#[cfg(test)]
+mod expressions;
+#[cfg(test)]
+mod lists;
+#[cfg(test)]
+mod process;
+#[cfg(test)]
 mod tests;
+#[cfg(test)]
+mod trees;

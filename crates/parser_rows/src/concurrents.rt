@@ -4,7 +4,7 @@ ghost use Rattle.std.specs.Prelude.{◌≤◌};
 ghost use Rattle.parse_steps.specs.Reply.{most_levels};
 
 use crate::tokens::tokens_of;
-use ams_token::{Mark, TokenKind, Word};
+use ams_token::{Mark, TokenKind, Tokens, Word};
 use parse_conc::concurrent;
 use parse_steps::ParseFault;
 use std::alloc::{AllocError, Global};
@@ -44,6 +44,70 @@ const MAP: TokenKind = TokenKind::Word(Word::Map);
 
 const PROCESS: TokenKind = TokenKind::Word(Word::Process);
 
+const BEGIN: TokenKind = TokenKind::Word(Word::Begin);
+
+const NULL: TokenKind = TokenKind::Word(Word::Null);
+
+const OPEN_WORD: TokenKind = TokenKind::Word(Word::Open);
+
+const THEN: TokenKind = TokenKind::Word(Word::Then);
+
+const ELSIF: TokenKind = TokenKind::Word(Word::Elsif);
+
+// Short texts, and where each ends.
+const SHORT_TEXTS: [(&[TokenKind], Result<usize, ParseFault>); 9] = [
+    (
+        &[X, COLON, X, SIGNAL, X, WHEN, X, ELSE, X, WHEN, X, STOP, X],
+        Ok(12),
+    ),
+    (&[X, SIGNAL, X, ELSE], Err(ParseFault::Syntax(3))),
+    (
+        &[X, SIGNAL, X, WHEN, X, ELSE, X, ELSE],
+        Err(ParseFault::Syntax(7)),
+    ),
+    (&[X, OPEN, X, CLOSE, EQUALS, X, STOP], Ok(7)),
+    (
+        &[
+            X, COLON, ENTITY, X, PORT, MAP, OPEN, X, ARROW, OPEN_WORD, CLOSE, STOP,
+        ],
+        Ok(12),
+    ),
+    (&[ENTITY, X], Err(ParseFault::Syntax(0))),
+    (&[PROCESS, BEGIN, NULL, STOP, END, PROCESS, X, STOP], Ok(8)),
+    (
+        &[
+            IF, X, USE, X, EQUALS, X, STOP, ELSIF, X, USE, ELSE, END, USE, STOP,
+        ],
+        Ok(14),
+    ),
+    (&[IF, X, THEN], Err(ParseFault::Syntax(2))),
+];
+
+// Texts at so many open levels, and where each ends.
+const DEEP_TEXTS: [(&[TokenKind], u32, Result<usize, ParseFault>); 5] = [
+    (&[PROCESS], 64, Err(ParseFault::TooDeep(0))),
+    (&[PROCESS, OPEN], 63, Err(ParseFault::TooDeep(1))),
+    (&[IF, OPEN], 63, Err(ParseFault::TooDeep(1))),
+    (
+        &[X, COLON, ENTITY, X, PORT, MAP, OPEN],
+        64,
+        Err(ParseFault::TooDeep(6)),
+    ),
+    (&[X, EQUALS, X, STOP], 64, Ok(4)),
+];
+
+fn end_of(alloc: Global, tokens: &Tokens, depth: u32) -> Result<usize, ParseFault>
+    requires { depth ≤ most_levels }
+{
+    match concurrent(alloc, tokens, 0, depth) {
+        Ok((tree, end)) => {
+            drop(tree);
+            Ok(end)
+        }
+        Err(fault) => Err(fault),
+    }
+}
+
 // Where the statement of these tokens ends, or its fault.
 fn end(
     alloc: Global,
@@ -53,44 +117,12 @@ fn end(
     requires { depth ≤ most_levels }
 {
     let tokens = tokens_of(alloc, kinds)?;
-    Ok(concurrent(alloc, &tokens, 0, depth).map(|found| found.1))
+    Ok(end_of(alloc, &tokens, depth))
 }
 
 #[test]
 fn short_texts_end_in_their_places(rt: HostRuntime) -> Result<(), Fail> {
-    let begin = TokenKind::Word(Word::Begin);
-    let null = TokenKind::Word(Word::Null);
-    let open = TokenKind::Word(Word::Open);
-    let then = TokenKind::Word(Word::Then);
-    let elsif = TokenKind::Word(Word::Elsif);
-    let rows: [(&[TokenKind], Result<usize, ParseFault>); 9] = [
-        (
-            &[X, COLON, X, SIGNAL, X, WHEN, X, ELSE, X, WHEN, X, STOP, X],
-            Ok(12),
-        ),
-        (&[X, SIGNAL, X, ELSE], Err(ParseFault::Syntax(3))),
-        (
-            &[X, SIGNAL, X, WHEN, X, ELSE, X, ELSE],
-            Err(ParseFault::Syntax(7)),
-        ),
-        (&[X, OPEN, X, CLOSE, EQUALS, X, STOP], Ok(7)),
-        (
-            &[
-                X, COLON, ENTITY, X, PORT, MAP, OPEN, X, ARROW, open, CLOSE, STOP,
-            ],
-            Ok(12),
-        ),
-        (&[ENTITY, X], Err(ParseFault::Syntax(0))),
-        (&[PROCESS, begin, null, STOP, END, PROCESS, X, STOP], Ok(8)),
-        (
-            &[
-                IF, X, USE, X, EQUALS, X, STOP, elsif, X, USE, ELSE, END, USE, STOP,
-            ],
-            Ok(14),
-        ),
-        (&[IF, X, then], Err(ParseFault::Syntax(2))),
-    ];
-    for (kinds, want) in rows {
+    for (kinds, want) in SHORT_TEXTS {
         assert_eq!(rt; end(rt.alloc(), kinds, 0)?, want);
     }
     Ok(())
@@ -98,18 +130,7 @@ fn short_texts_end_in_their_places(rt: HostRuntime) -> Result<(), Fail> {
 
 #[test]
 fn levels_open_at_first_tokens(rt: HostRuntime) -> Result<(), Fail> {
-    let rows: [(&[TokenKind], u32, Result<usize, ParseFault>); 5] = [
-        (&[PROCESS], 64, Err(ParseFault::TooDeep(0))),
-        (&[PROCESS, OPEN], 63, Err(ParseFault::TooDeep(1))),
-        (&[IF, OPEN], 63, Err(ParseFault::TooDeep(1))),
-        (
-            &[X, COLON, ENTITY, X, PORT, MAP, OPEN],
-            64,
-            Err(ParseFault::TooDeep(6)),
-        ),
-        (&[X, EQUALS, X, STOP], 64, Ok(4)),
-    ];
-    for (kinds, depth, want) in rows {
+    for (kinds, depth, want) in DEEP_TEXTS {
         assert_eq!(rt; end(rt.alloc(), kinds, depth)?, want);
     }
     Ok(())

@@ -4,7 +4,7 @@ ghost use Rattle.std.specs.Prelude.{◌≤◌};
 ghost use Rattle.parse_steps.specs.Reply.{most_levels};
 
 use crate::tokens::tokens_of;
-use ams_token::{Mark, TokenKind, Word};
+use ams_token::{Mark, TokenKind, Tokens, Word};
 use parse_decl::declaration;
 use parse_steps::ParseFault;
 use std::alloc::{AllocError, Global};
@@ -42,6 +42,51 @@ const QUANTITY: TokenKind = TokenKind::Word(Word::Quantity);
 
 const SUBTYPE: TokenKind = TokenKind::Word(Word::Subtype);
 
+const TERMINAL: TokenKind = TokenKind::Word(Word::Terminal);
+
+const CONSTANT: TokenKind = TokenKind::Word(Word::Constant);
+
+const TYPE: TokenKind = TokenKind::Word(Word::Type);
+
+const NATURE: TokenKind = TokenKind::Word(Word::Nature);
+
+const REFERENCE: TokenKind = TokenKind::Word(Word::Reference);
+
+// Short texts, and where each ends.
+const SHORT_TEXTS: [(&[TokenKind], Result<usize, ParseFault>); 10] = [
+    (&[SIGNAL, X, COLON, X, ASSIGN, X, STOP, X], Ok(7)),
+    (
+        &[SIGNAL, X, COLON, X, OPEN, X, DOWNTO, X, CLOSE, STOP],
+        Ok(10),
+    ),
+    (&[CONSTANT, X, COLON, X, STOP], Err(ParseFault::Syntax(4))),
+    (&[TERMINAL, X, COMMA, X, COLON, X, STOP], Ok(7)),
+    (&[QUANTITY, X, ACROSS, X, THROUGH, X, TO, X, STOP], Ok(9)),
+    (&[QUANTITY, X, THROUGH, X, STOP], Ok(5)),
+    (&[TYPE, X, IS, OPEN, X, COMMA, X, CLOSE, STOP], Ok(9)),
+    (
+        &[NATURE, X, IS, X, ACROSS, X, THROUGH, X, REFERENCE, STOP],
+        Ok(10),
+    ),
+    (&[SUBTYPE, X, IS, X, RANGE, X, TO, X, STOP], Ok(9)),
+    (
+        &[SUBTYPE, X, IS, X, RANGE, X, DOWNTO],
+        Err(ParseFault::Syntax(6)),
+    ),
+];
+
+fn end_of(alloc: Global, tokens: &Tokens, depth: u32) -> Result<usize, ParseFault>
+    requires { depth ≤ most_levels }
+{
+    match declaration(alloc, tokens, 0, depth) {
+        Ok((tree, end)) => {
+            drop(tree);
+            Ok(end)
+        }
+        Err(fault) => Err(fault),
+    }
+}
+
 // Where the declaration of these tokens ends, or its fault.
 fn end(
     alloc: Global,
@@ -51,38 +96,12 @@ fn end(
     requires { depth ≤ most_levels }
 {
     let tokens = tokens_of(alloc, kinds)?;
-    Ok(declaration(alloc, &tokens, 0, depth).map(|found| found.1))
+    Ok(end_of(alloc, &tokens, depth))
 }
 
 #[test]
 fn short_texts_end_in_their_places(rt: HostRuntime) -> Result<(), Fail> {
-    let terminal = TokenKind::Word(Word::Terminal);
-    let constant = TokenKind::Word(Word::Constant);
-    let enumeration = TokenKind::Word(Word::Type);
-    let nature = TokenKind::Word(Word::Nature);
-    let reference = TokenKind::Word(Word::Reference);
-    let rows: [(&[TokenKind], Result<usize, ParseFault>); 10] = [
-        (&[SIGNAL, X, COLON, X, ASSIGN, X, STOP, X], Ok(7)),
-        (
-            &[SIGNAL, X, COLON, X, OPEN, X, DOWNTO, X, CLOSE, STOP],
-            Ok(10),
-        ),
-        (&[constant, X, COLON, X, STOP], Err(ParseFault::Syntax(4))),
-        (&[terminal, X, COMMA, X, COLON, X, STOP], Ok(7)),
-        (&[QUANTITY, X, ACROSS, X, THROUGH, X, TO, X, STOP], Ok(9)),
-        (&[QUANTITY, X, THROUGH, X, STOP], Ok(5)),
-        (&[enumeration, X, IS, OPEN, X, COMMA, X, CLOSE, STOP], Ok(9)),
-        (
-            &[nature, X, IS, X, ACROSS, X, THROUGH, X, reference, STOP],
-            Ok(10),
-        ),
-        (&[SUBTYPE, X, IS, X, RANGE, X, TO, X, STOP], Ok(9)),
-        (
-            &[SUBTYPE, X, IS, X, RANGE, X, DOWNTO],
-            Err(ParseFault::Syntax(6)),
-        ),
-    ];
-    for (kinds, want) in rows {
+    for (kinds, want) in SHORT_TEXTS {
         assert_eq!(rt; end(rt.alloc(), kinds, 0)?, want);
     }
     assert_eq!(rt;

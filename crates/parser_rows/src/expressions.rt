@@ -4,7 +4,7 @@ ghost use Rattle.std.specs.Prelude.{◌≤◌};
 ghost use Rattle.parse_steps.specs.Reply.{most_levels};
 
 use crate::tokens::tokens_of;
-use ams_token::{Integer, Mark, TokenKind, Word};
+use ams_token::{Integer, Mark, TokenKind, Tokens, Word};
 use parse_expr::expression;
 use parse_steps::ParseFault;
 use std::alloc::{AllocError, Global};
@@ -36,6 +36,46 @@ const NAND: TokenKind = TokenKind::Word(Word::Nand);
 
 const SLL: TokenKind = TokenKind::Word(Word::Sll);
 
+// Short texts, and where each ends.
+const SHORT_TEXTS: [(&[TokenKind], Result<usize, ParseFault>); 14] = [
+    (&[X, NAND, X, NAND, X], Ok(3)),
+    (&[X, AND, X, AND, X], Ok(5)),
+    (&[X, EQUAL, PLUS], Err(ParseFault::Syntax(3))),
+    (&[X, EQUAL, COMMA], Err(ParseFault::Syntax(2))),
+    (&[X, SLL, X, SLL, X], Ok(3)),
+    (&[], Err(ParseFault::Syntax(0))),
+    (&[FIVE, X, X], Ok(2)),
+    (&[X, OPEN, X, COMMA, X, CLOSE, X], Ok(6)),
+    (&[X, TICK, TokenKind::ABOVE, OPEN, X, CLOSE], Ok(6)),
+    (&[X, TICK, TokenKind::RAMP, X], Ok(3)),
+    (&[X, TICK, TokenKind::RAMP, OPEN, X, COMMA, X, CLOSE], Ok(8)),
+    (
+        &[X, TICK, TokenKind::RAMP, OPEN, X, COMMA, X, COMMA],
+        Err(ParseFault::Syntax(7)),
+    ),
+    (&[X, TICK, X], Err(ParseFault::Syntax(2))),
+    (
+        &[
+            TokenKind::Str(8),
+            TokenKind::Mark(Mark::Ampersand),
+            TokenKind::Bits(9),
+        ],
+        Ok(3),
+    ),
+];
+
+fn end_of(alloc: Global, tokens: &Tokens, depth: u32) -> Result<usize, ParseFault>
+    requires { depth ≤ most_levels }
+{
+    match expression(alloc, tokens, 0, depth) {
+        Ok((tree, end)) => {
+            drop(tree);
+            Ok(end)
+        }
+        Err(fault) => Err(fault),
+    }
+}
+
 // Where the expression of these tokens ends, or its fault.
 fn end(
     alloc: Global,
@@ -45,38 +85,12 @@ fn end(
     requires { depth ≤ most_levels }
 {
     let tokens = tokens_of(alloc, kinds)?;
-    Ok(expression(alloc, &tokens, 0, depth).map(|found| found.1))
+    Ok(end_of(alloc, &tokens, depth))
 }
 
 #[test]
 fn short_texts_end_in_their_places(rt: HostRuntime) -> Result<(), Fail> {
-    let rows: [(&[TokenKind], Result<usize, ParseFault>); 14] = [
-        (&[X, NAND, X, NAND, X], Ok(3)),
-        (&[X, AND, X, AND, X], Ok(5)),
-        (&[X, EQUAL, PLUS], Err(ParseFault::Syntax(3))),
-        (&[X, EQUAL, COMMA], Err(ParseFault::Syntax(2))),
-        (&[X, SLL, X, SLL, X], Ok(3)),
-        (&[], Err(ParseFault::Syntax(0))),
-        (&[FIVE, X, X], Ok(2)),
-        (&[X, OPEN, X, COMMA, X, CLOSE, X], Ok(6)),
-        (&[X, TICK, TokenKind::ABOVE, OPEN, X, CLOSE], Ok(6)),
-        (&[X, TICK, TokenKind::RAMP, X], Ok(3)),
-        (&[X, TICK, TokenKind::RAMP, OPEN, X, COMMA, X, CLOSE], Ok(8)),
-        (
-            &[X, TICK, TokenKind::RAMP, OPEN, X, COMMA, X, COMMA],
-            Err(ParseFault::Syntax(7)),
-        ),
-        (&[X, TICK, X], Err(ParseFault::Syntax(2))),
-        (
-            &[
-                TokenKind::Str(8),
-                TokenKind::Mark(Mark::Ampersand),
-                TokenKind::Bits(9),
-            ],
-            Ok(3),
-        ),
-    ];
-    for (kinds, want) in rows {
+    for (kinds, want) in SHORT_TEXTS {
         assert_eq!(rt; end(rt.alloc(), kinds, 0)?, want);
     }
     assert_eq!(rt;
@@ -86,19 +100,34 @@ fn short_texts_end_in_their_places(rt: HostRuntime) -> Result<(), Fail> {
     Ok(())
 }
 
-#[test]
-fn long_texts_pass_the_limits(rt: HostRuntime) -> Result<(), Fail> {
-    let mut kinds = Vec::new(rt.alloc());
+fn parentheses(alloc: Global) -> Result<Vec<TokenKind>, AllocError> {
+    let mut kinds = Vec::new(alloc);
     for _ in 0..1048576 {
         kinds.push(OPEN)?;
     }
-    assert_eq!(rt; end(rt.alloc(), &kinds, 0)?, Err(ParseFault::TooDeep(64)));
-    let mut sum = Vec::new(rt.alloc());
-    sum.push(X)?;
+    Ok(kinds)
+}
+
+fn sum(alloc: Global) -> Result<Vec<TokenKind>, AllocError> {
+    let mut kinds = Vec::new(alloc);
+    kinds.push(X)?;
     for _ in 0..257 {
-        sum.push(PLUS)?;
-        sum.push(X)?;
+        kinds.push(PLUS)?;
+        kinds.push(X)?;
     }
-    assert_eq!(rt; end(rt.alloc(), &sum, 0)?, Err(ParseFault::TooDeep(513)));
+    Ok(kinds)
+}
+
+#[test]
+fn parentheses_pass_the_levels(rt: HostRuntime) -> Result<(), Fail> {
+    let kinds = parentheses(rt.alloc())?;
+    assert_eq!(rt; end(rt.alloc(), &kinds, 0)?, Err(ParseFault::TooDeep(64)));
+    Ok(())
+}
+
+#[test]
+fn a_sum_passes_the_operators(rt: HostRuntime) -> Result<(), Fail> {
+    let kinds = sum(rt.alloc())?;
+    assert_eq!(rt; end(rt.alloc(), &kinds, 0)?, Err(ParseFault::TooDeep(513)));
     Ok(())
 }

@@ -8,10 +8,40 @@ mod files;
 mod parts;
 
 use ams_lexer::lex;
+use ams_token::Tokens;
 use parse_expr::expression;
 use parse_steps::{MOST_LEVELS, ParseFault};
 use std::alloc::Global;
 use std::io;
+
+/// Where an expression from a place on ends, with so many levels open. None where there is no such place or level.
+fn expression_of(
+    alloc: Global,
+    tokens: &Tokens,
+    at: usize,
+    depth: u32,
+) -> Option<Result<usize, ParseFault>> {
+    if at > tokens.list.len() || depth > MOST_LEVELS {
+        return None;
+    }
+    match expression(alloc, tokens, at, depth) {
+        Ok((tree, place)) => {
+            drop(tree);
+            Some(Ok(place))
+        }
+        Err(fault) => Some(Err(fault)),
+    }
+}
+
+fn read_text(
+    alloc: Global,
+    text: &str,
+    at: usize,
+    depth: u32,
+) -> Option<Result<usize, ParseFault>> {
+    let tokens = lex(alloc, text.as_bytes()).ok()?;
+    expression_of(alloc, &tokens, at, depth)
+}
 
 /// What an expression is read as from a place on, with so many levels open: the place behind it. None where the words
 /// are no such row.
@@ -20,14 +50,7 @@ fn read_expression(alloc: Global, row: &str) -> Option<Result<usize, ParseFault>
     let (depth, text) = rest.split_once(' ')?;
     let at = at.parse::<usize>().ok()?;
     let depth = depth.parse::<u32>().ok()?;
-    let tokens = lex(alloc, text.as_bytes()).ok()?;
-    if at > tokens.list.len() || depth > MOST_LEVELS {
-        return None;
-    }
-    match expression(alloc, &tokens, at, depth) {
-        Ok((_, place)) => Some(Ok(place)),
-        Err(fault) => Some(Err(fault)),
-    }
+    read_text(alloc, text, at, depth)
 }
 
 fn read(alloc: Global, line: &str) -> Option<Result<usize, ParseFault>> {

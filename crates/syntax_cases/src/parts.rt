@@ -32,7 +32,11 @@ fn spelled_declaration(
 
 fn declaration_of(alloc: Global, tokens: &Tokens) -> Option<Result<usize, ParseFault>> {
     match declaration(alloc, tokens, 0, 0) {
-        Ok((tree, _)) => spelled_declaration(alloc, tokens, &tree),
+        Ok((tree, _)) => {
+            let answer = spelled_declaration(alloc, tokens, &tree);
+            drop(tree);
+            answer
+        }
         Err(fault) => Some(Err(fault)),
     }
 }
@@ -55,7 +59,11 @@ fn spelled_statement(
 
 fn statement_of(alloc: Global, tokens: &Tokens) -> Option<Result<usize, ParseFault>> {
     match statement(alloc, tokens, 0, 0) {
-        Ok((tree, _)) => spelled_statement(alloc, tokens, &tree),
+        Ok((tree, _)) => {
+            let answer = spelled_statement(alloc, tokens, &tree);
+            drop(tree);
+            answer
+        }
         Err(fault) => Some(Err(fault)),
     }
 }
@@ -78,7 +86,11 @@ fn spelled_concurrent(
 
 fn concurrent_of(alloc: Global, tokens: &Tokens) -> Option<Result<usize, ParseFault>> {
     match concurrent(alloc, tokens, 0, 0) {
-        Ok((tree, _)) => spelled_concurrent(alloc, tokens, &tree),
+        Ok((tree, _)) => {
+            let answer = spelled_concurrent(alloc, tokens, &tree);
+            drop(tree);
+            answer
+        }
         Err(fault) => Some(Err(fault)),
     }
 }
