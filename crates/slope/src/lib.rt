@@ -1,0 +1,11 @@
+//! The partial slopes of an expression of a flat design by its unknowns, or its first fault. No call takes memory.
+#![tactic(auto)]
+
+mod functions;
+mod numbers;
+mod operators;
+mod partial;
+#[cfg(test)]
+mod tests;
+
+pub use partial::{slope, slopes};

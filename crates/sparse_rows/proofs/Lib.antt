@@ -1,0 +1,4 @@
+pub mod Sparse
+pub mod Lookup
+pub mod Edits
+pub mod Shapes
