@@ -5,7 +5,7 @@ ghost use Rattle.parse_parts.specs.Parsing as spec;
 
 use ams_token::{Mark, TokenKind, Word};
 use ams_tree::Expr;
-use parse_expr::listed_name;
+use parse_expr::{found, listed_name};
 use parse_steps::{Reader, Stop};
 use sqlite_items::Items;
 use std::alloc::Global;
@@ -26,8 +26,8 @@ fn more_listed(
         if !reader.at(TokenKind::Mark(Mark::Comma)) {
             return Ok(all);
         }
-        reader.expect(TokenKind::Mark(Mark::Comma))?;
-        all.push(listed_name(alloc, reader, levels)?)?;
+        found!(reader.expect(TokenKind::Mark(Mark::Comma)));
+        all.push(found!(listed_name(alloc, reader, levels)))?;
     }
     Ok(all)
 }
@@ -37,7 +37,7 @@ fn more_listed(
 pub fn name_list(alloc: Global, reader: &mut Reader<'_>, levels: u32) -> Result<Items<Expr>, Stop>
     ensures { Reads (spec.name_list most_operators levels reader.old) result reader.new }
 {
-    let first = listed_name(alloc, reader, levels)?;
+    let first = found!(listed_name(alloc, reader, levels));
     more_listed(alloc, reader, levels, first)
 }
 
@@ -49,6 +49,6 @@ pub fn names_on(alloc: Global, reader: &mut Reader<'_>, levels: u32) -> Result<I
     if !reader.at(TokenKind::Word(Word::On)) {
         return Ok(Items::new(alloc));
     }
-    reader.expect(TokenKind::Word(Word::On))?;
+    found!(reader.expect(TokenKind::Word(Word::On)));
     name_list(alloc, reader, levels)
 }

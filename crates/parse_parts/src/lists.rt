@@ -6,7 +6,7 @@ ghost use Rattle.parse_parts.specs.Parsing as spec;
 
 use ams_token::{Mark, TokenKind, Word};
 use ams_tree::Name;
-use parse_expr::name_of;
+use parse_expr::{found, name_of};
 use parse_steps::{Reader, Stop};
 use sqlite_items::Items;
 use std::alloc::Global;
@@ -21,7 +21,7 @@ pub fn name(reader: &mut Reader<'_>) -> Result<Name, Stop>
     let Some(name) = name_of(reader.peek()) else {
         return Err(Stop::Syntax(reader.left()));
     };
-    reader.take(true, 0)?;
+    found!(reader.take(true, 0));
     Ok(name)
 }
 
@@ -36,8 +36,8 @@ pub fn more_names(alloc: Global, reader: &mut Reader<'_>, first: Name) -> Result
         if !reader.at(COMMA) {
             return Ok(all);
         }
-        reader.expect(COMMA)?;
-        all.push(name(reader)?)?;
+        found!(reader.expect(COMMA));
+        all.push(found!(name(reader)))?;
     }
     Ok(all)
 }
@@ -47,7 +47,7 @@ pub fn more_names(alloc: Global, reader: &mut Reader<'_>, first: Name) -> Result
 pub fn names(alloc: Global, reader: &mut Reader<'_>) -> Result<Items<Name>, Stop>
     ensures { Reads (spec.names reader.old) result reader.new }
 {
-    let first = name(reader)?;
+    let first = found!(name(reader));
     more_names(alloc, reader, first)
 }
 
@@ -56,6 +56,6 @@ pub fn names(alloc: Global, reader: &mut Reader<'_>) -> Result<Items<Name>, Stop
 pub fn name_after(reader: &mut Reader<'_>, word: Word) -> Result<Name, Stop>
     ensures { Reads (spec.name_after word reader.old) result reader.new }
 {
-    reader.expect(TokenKind::Word(word))?;
+    found!(reader.expect(TokenKind::Word(word)));
     name(reader)
 }

@@ -10,7 +10,7 @@ use crate::tokens::string_of;
 use ams_token::{Mark, Place, TokenKind, Word};
 use ams_tree::{Assertion, Expr, Literal, Name};
 use held_value::Held;
-use parse_expr::outermost;
+use parse_expr::{ended, found, outermost};
 use parse_steps::{Reader, Stop};
 use std::alloc::Global;
 
@@ -19,8 +19,8 @@ use std::alloc::Global;
 pub fn ending(reader: &mut Reader<'_>, word: Word) -> Result<Place, Stop>
     ensures { Reads (spec.ending word reader.old) result reader.new }
 {
-    reader.expect(TokenKind::Word(Word::End))?;
-    reader.expect(TokenKind::Word(word))?;
+    found!(reader.expect(TokenKind::Word(Word::End)));
+    found!(reader.expect(TokenKind::Word(word)));
     reader.expect(TokenKind::Mark(Mark::Semicolon))
 }
 
@@ -32,7 +32,7 @@ pub fn string(reader: &mut Reader<'_>) -> Result<Literal, Stop>
     let Some(text) = string_of(reader.peek()) else {
         return Err(Stop::Syntax(reader.left()));
     };
-    reader.take(true, 0)?;
+    found!(reader.take(true, 0));
     Ok(text)
 }
 
@@ -44,8 +44,8 @@ pub fn severity(reader: &mut Reader<'_>) -> Result<Option<Name>, Stop>
     if !reader.at(TokenKind::Word(Word::Severity)) {
         return Ok(None);
     }
-    reader.expect(TokenKind::Word(Word::Severity))?;
-    Ok(Some(name(reader)?))
+    found!(reader.expect(TokenKind::Word(Word::Severity)));
+    Ok(Some(found!(name(reader))))
 }
 
 #[tactic(auto, using(parse_steps::proofs::Steps::terminal_seen), unfolding(crate::specs::Parsing::message))]
@@ -55,8 +55,8 @@ fn message(reader: &mut Reader<'_>) -> Result<Option<Literal>, Stop>
     if !reader.at(TokenKind::Word(Word::Report)) {
         return Ok(None);
     }
-    reader.expect(TokenKind::Word(Word::Report))?;
-    Ok(Some(string(reader)?))
+    found!(reader.expect(TokenKind::Word(Word::Report)));
+    Ok(Some(found!(string(reader))))
 }
 
 /// An assertion with its semicolon.
@@ -64,17 +64,20 @@ fn message(reader: &mut Reader<'_>) -> Result<Option<Literal>, Stop>
 pub fn assertion(alloc: Global, reader: &mut Reader<'_>, levels: u32) -> Result<Assertion, Stop>
     ensures { Reads (spec.assertion most_operators levels reader.old) result reader.new }
 {
-    let place = reader.expect(TokenKind::Word(Word::Assert))?;
-    let condition = Held::new(outermost(alloc, reader, levels)?);
-    let text = message(reader)?;
-    let severity = severity(reader)?;
-    reader.expect(TokenKind::Mark(Mark::Semicolon))?;
-    Ok(Assertion {
-        place,
-        condition: condition.into_inner(),
-        text,
-        severity,
-    })
+    let place = found!(reader.expect(TokenKind::Word(Word::Assert)));
+    let condition = Held::new(found!(outermost(alloc, reader, levels)));
+    let text = found!(message(reader));
+    let severity = found!(severity(reader));
+    ended(
+        reader,
+        TokenKind::Mark(Mark::Semicolon),
+        Assertion {
+            place,
+            condition: condition.into_inner(),
+            text,
+            severity,
+        },
+    )
 }
 
 /// The condition behind `when`, where it is written.
@@ -85,6 +88,6 @@ pub fn condition(alloc: Global, reader: &mut Reader<'_>, levels: u32) -> Result<
     if !reader.at(TokenKind::Word(Word::When)) {
         return Ok(None);
     }
-    reader.expect(TokenKind::Word(Word::When))?;
-    Ok(Some(outermost(alloc, reader, levels)?))
+    found!(reader.expect(TokenKind::Word(Word::When)));
+    Ok(Some(found!(outermost(alloc, reader, levels))))
 }

@@ -15,7 +15,7 @@ use crate::tokens::{begins_simple, begins_statement};
 use ams_token::{Place, TokenKind, Word};
 use ams_tree::{Alternative, Branch, Expr, Iteration, Seq};
 use held_value::Held;
-use parse_expr::outermost;
+use parse_expr::{found, outermost};
 use parse_parts::{choices, ending, name, range};
 use parse_steps::{Reader, Stop};
 use sqlite_items::Items;
@@ -61,7 +61,7 @@ impl<F: Fn(Global, &mut Reader<'_>, u32) -> Result<Seq, Stop>> Statements<F> {
             if !begins_statement(reader.peek()) {
                 return Ok(all);
             }
-            all.push(self.inner(reader)?)?;
+            all.push(found!(self.inner(reader)))?;
         }
         Ok(all)
     }
@@ -71,9 +71,9 @@ impl<F: Fn(Global, &mut Reader<'_>, u32) -> Result<Seq, Stop>> Statements<F> {
         requires { Nests self.now.levels (F.pre self.now.nested) (F.post self.now.nested) }
         ensures { Reads (at_level spec.branch self.now.levels reader.old) result reader.new }
     {
-        let condition = Held::new(self.expression(reader)?);
-        reader.expect(TokenKind::Word(Word::Then))?;
-        let body = self.body(reader)?;
+        let condition = Held::new(found!(self.expression(reader)));
+        found!(reader.expect(TokenKind::Word(Word::Then)));
+        let body = found!(self.body(reader));
         Ok(Branch {
             condition: condition.into_inner(),
             body,
@@ -93,8 +93,8 @@ impl<F: Fn(Global, &mut Reader<'_>, u32) -> Result<Seq, Stop>> Statements<F> {
             if !reader.at(TokenKind::Word(Word::Elsif)) {
                 return Ok(all);
             }
-            reader.expect(TokenKind::Word(Word::Elsif))?;
-            all.push(self.branch(reader)?)?;
+            found!(reader.expect(TokenKind::Word(Word::Elsif)));
+            all.push(found!(self.branch(reader)))?;
         }
         Ok(all)
     }
@@ -107,8 +107,8 @@ impl<F: Fn(Global, &mut Reader<'_>, u32) -> Result<Seq, Stop>> Statements<F> {
         if !reader.at(TokenKind::Word(Word::Else)) {
             return Ok(None);
         }
-        reader.expect(TokenKind::Word(Word::Else))?;
-        Ok(Some(self.body(reader)?))
+        found!(reader.expect(TokenKind::Word(Word::Else)));
+        Ok(Some(found!(self.body(reader))))
     }
 
     #[tactic(auto, using(parse_steps::proofs::Steps::terminal_seen), unfolding(crate::specs::Parsing::rest_of_if))]
@@ -118,9 +118,9 @@ impl<F: Fn(Global, &mut Reader<'_>, u32) -> Result<Seq, Stop>> Statements<F> {
     {
         let mut all = Items::new(self.alloc);
         all.push(first)?;
-        let all = self.more_branches(reader, all)?;
-        let other = Held::new(self.otherwise(reader)?);
-        ending(reader, Word::If)?;
+        let all = found!(self.more_branches(reader, all));
+        let other = Held::new(found!(self.otherwise(reader)));
+        found!(ending(reader, Word::If));
         Ok(Seq::If(place, all, other.into_inner()))
     }
 
@@ -129,8 +129,8 @@ impl<F: Fn(Global, &mut Reader<'_>, u32) -> Result<Seq, Stop>> Statements<F> {
         requires { Nests self.now.levels (F.pre self.now.nested) (F.post self.now.nested) }
         ensures { Reads (at_level spec.if_statement self.now.levels reader.old) result reader.new }
     {
-        let place = reader.expect_within(TokenKind::Word(Word::If), self.levels > 0, 0)?;
-        let first = self.branch(reader)?;
+        let place = found!(reader.expect_within(TokenKind::Word(Word::If), self.levels > 0, 0));
+        let first = found!(self.branch(reader));
         self.rest_of_if(reader, place, first)
     }
 
@@ -139,8 +139,8 @@ impl<F: Fn(Global, &mut Reader<'_>, u32) -> Result<Seq, Stop>> Statements<F> {
         requires { Nests self.now.levels (F.pre self.now.nested) (F.post self.now.nested) }
         ensures { Reads (at_level spec.alternative self.now.levels reader.old) result reader.new }
     {
-        let choices = choices(self.alloc, reader, self.inside())?;
-        let body = self.body(reader)?;
+        let choices = found!(choices(self.alloc, reader, self.inside()));
+        let body = found!(self.body(reader));
         Ok(Alternative { choices, body })
     }
 
@@ -157,7 +157,7 @@ impl<F: Fn(Global, &mut Reader<'_>, u32) -> Result<Seq, Stop>> Statements<F> {
             if !reader.at(TokenKind::Word(Word::When)) {
                 return Ok(all);
             }
-            all.push(self.alternative(reader)?)?;
+            all.push(found!(self.alternative(reader)))?;
         }
         Ok(all)
     }
@@ -168,7 +168,7 @@ impl<F: Fn(Global, &mut Reader<'_>, u32) -> Result<Seq, Stop>> Statements<F> {
         ensures { Reads (at_level spec.alternatives self.now.levels reader.old) result reader.new }
     {
         let mut all = Items::new(self.alloc);
-        all.push(self.alternative(reader)?)?;
+        all.push(found!(self.alternative(reader)))?;
         self.more_alternatives(reader, all)
     }
 
@@ -177,11 +177,11 @@ impl<F: Fn(Global, &mut Reader<'_>, u32) -> Result<Seq, Stop>> Statements<F> {
         requires { Nests self.now.levels (F.pre self.now.nested) (F.post self.now.nested) }
         ensures { Reads (at_level spec.case_statement self.now.levels reader.old) result reader.new }
     {
-        let place = reader.expect_within(TokenKind::Word(Word::Case), self.levels > 0, 0)?;
-        let value = Held::new(self.expression(reader)?);
-        reader.expect(TokenKind::Word(Word::Is))?;
-        let all = self.alternatives(reader)?;
-        ending(reader, Word::Case)?;
+        let place = found!(reader.expect_within(TokenKind::Word(Word::Case), self.levels > 0, 0));
+        let value = Held::new(found!(self.expression(reader)));
+        found!(reader.expect(TokenKind::Word(Word::Is)));
+        let all = found!(self.alternatives(reader));
+        found!(ending(reader, Word::Case));
         Ok(Seq::Case(place, value.into_inner(), all))
     }
 
@@ -196,8 +196,8 @@ impl<F: Fn(Global, &mut Reader<'_>, u32) -> Result<Seq, Stop>> Statements<F> {
         ensures { Reads (at_level spec.rest_of_loop self.now.levels place iteration reader.old) result reader.new }
     {
         let iteration = Held::new(iteration);
-        let body = self.body(reader)?;
-        ending(reader, Word::Loop)?;
+        let body = found!(self.body(reader));
+        found!(ending(reader, Word::Loop));
         Ok(Seq::Loop(place, iteration.into_inner(), body))
     }
 
@@ -205,9 +205,9 @@ impl<F: Fn(Global, &mut Reader<'_>, u32) -> Result<Seq, Stop>> Statements<F> {
     fn parameter(&self, reader: &mut Reader<'_>) -> Result<Iteration, Stop>
         ensures { Reads (at_level spec.parameter self.now.levels reader.old) result reader.new }
     {
-        let name = name(reader)?;
-        reader.expect(TokenKind::Word(Word::In))?;
-        let range = range(self.alloc, reader, self.inside())?;
+        let name = found!(name(reader));
+        found!(reader.expect(TokenKind::Word(Word::In)));
+        let range = found!(range(self.alloc, reader, self.inside()));
         Ok(Iteration::For(name, range))
     }
 
@@ -216,9 +216,9 @@ impl<F: Fn(Global, &mut Reader<'_>, u32) -> Result<Seq, Stop>> Statements<F> {
         requires { Nests self.now.levels (F.pre self.now.nested) (F.post self.now.nested) }
         ensures { Reads (at_level spec.while_loop self.now.levels reader.old) result reader.new }
     {
-        let place = reader.expect_within(TokenKind::Word(Word::While), self.levels > 0, 0)?;
-        let condition = Held::new(self.expression(reader)?);
-        reader.expect(TokenKind::Word(Word::Loop))?;
+        let place = found!(reader.expect_within(TokenKind::Word(Word::While), self.levels > 0, 0));
+        let condition = Held::new(found!(self.expression(reader)));
+        found!(reader.expect(TokenKind::Word(Word::Loop)));
         self.rest_of_loop(reader, place, Iteration::While(condition.into_inner()))
     }
 
@@ -227,9 +227,9 @@ impl<F: Fn(Global, &mut Reader<'_>, u32) -> Result<Seq, Stop>> Statements<F> {
         requires { Nests self.now.levels (F.pre self.now.nested) (F.post self.now.nested) }
         ensures { Reads (at_level spec.for_loop self.now.levels reader.old) result reader.new }
     {
-        let place = reader.expect_within(TokenKind::Word(Word::For), self.levels > 0, 0)?;
-        let iteration = Held::new(self.parameter(reader)?);
-        reader.expect(TokenKind::Word(Word::Loop))?;
+        let place = found!(reader.expect_within(TokenKind::Word(Word::For), self.levels > 0, 0));
+        let iteration = Held::new(found!(self.parameter(reader)));
+        found!(reader.expect(TokenKind::Word(Word::Loop)));
         self.rest_of_loop(reader, place, iteration.into_inner())
     }
 
@@ -238,7 +238,7 @@ impl<F: Fn(Global, &mut Reader<'_>, u32) -> Result<Seq, Stop>> Statements<F> {
         requires { Nests self.now.levels (F.pre self.now.nested) (F.post self.now.nested) }
         ensures { Reads (at_level spec.plain_loop self.now.levels reader.old) result reader.new }
     {
-        let place = reader.expect_within(TokenKind::Word(Word::Loop), self.levels > 0, 0)?;
+        let place = found!(reader.expect_within(TokenKind::Word(Word::Loop), self.levels > 0, 0));
         self.rest_of_loop(reader, place, Iteration::Endless)
     }
 
