@@ -1,0 +1,10 @@
+//! What the expressions of a statement give in a process. No call takes memory.
+#![tactic(auto)]
+
+mod activation;
+mod condition;
+mod delay;
+
+pub use activation::{Activation, evaluated};
+pub use condition::holds;
+pub use delay::{delay_of, is_bad_delay, limit_of, time_after, timeout_of};

@@ -1,0 +1,5 @@
+//! Lines of traces.
+#![tactic(auto)]
+
+#[cfg(test)]
+mod tests;
