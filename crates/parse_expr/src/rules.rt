@@ -12,7 +12,7 @@ ghost use Rattle.parse_expr.specs.Parsing.{nested, inside};
 ghost use Rattle.parse_expr.specs.Nests.{Nests};
 
 use crate::found;
-use crate::found::ended;
+use crate::found::{ended, pushed};
 use crate::tokens::{
     adding, literal_of, multiplying, name_of, number_of, prefix, relating, shifting, sign,
 };
@@ -97,7 +97,7 @@ pub fn name(reader: &mut Reader<'_>) -> Result<Name, Stop>
     Ok(name)
 }
 
-#[derive(Clone, Copy)]
+#[derive(Drop)]
 pub struct Rules<F> {
     pub alloc: Global,
     /// How many parentheses may still open.
@@ -175,16 +175,17 @@ impl<F: Fn(Global, &mut Reader<'_>, u32) -> Result<Expr, Stop>> Rules<F> {
         ensures { Reads (spec.attribute (allows self.now.levels) (inside self.now.listed self.now.levels) reader.old) result reader.new }
     {
         if reader.at(TokenKind::EVENT) {
-            found!(reader.expect(TokenKind::EVENT));
-            return Ok(Attribute::Event);
+            return ended(reader, TokenKind::EVENT, Attribute::Event);
         }
         if reader.at(TokenKind::DOT) {
-            found!(reader.expect(TokenKind::DOT));
-            return Ok(Attribute::Dot);
+            return ended(reader, TokenKind::DOT, Attribute::Dot);
         }
         if reader.at(TokenKind::Word(Word::Reference)) {
-            found!(reader.expect(TokenKind::Word(Word::Reference)));
-            return Ok(Attribute::Reference);
+            return ended(
+                reader,
+                TokenKind::Word(Word::Reference),
+                Attribute::Reference,
+            );
         }
         if reader.at(TokenKind::ABOVE) {
             found!(reader.expect(TokenKind::ABOVE));
@@ -368,8 +369,8 @@ impl<F: Fn(Global, &mut Reader<'_>, u32) -> Result<Expr, Stop>> Rules<F> {
         ensures { Reads (spec.arguments (allows self.now.levels) (inside self.now.listed self.now.levels) cost reader.old) result reader.new }
     {
         found!(reader.expect_within(OPEN, self.levels > 0, cost));
-        let mut all = Items::new(self.alloc);
-        all.push(found!(self.nested(reader)))?;
+        let first = found!(self.nested(reader));
+        let all = found!(pushed(Items::new(self.alloc), first));
         let all = found!(self.more_arguments(reader, all));
         ended(reader, CLOSE, all)
     }
@@ -388,7 +389,8 @@ impl<F: Fn(Global, &mut Reader<'_>, u32) -> Result<Expr, Stop>> Rules<F> {
                 return Ok(all);
             }
             found!(reader.expect(COMMA));
-            all.push(found!(self.nested(reader)))?;
+            let next = found!(self.nested(reader));
+            all = found!(pushed(all, next));
         }
         Ok(all)
     }

@@ -5,7 +5,7 @@ ghost use Rattle.parse_parts.specs.Parsing as spec;
 
 use ams_token::{Mark, TokenKind, Word};
 use ams_tree::Choice;
-use parse_expr::{ended, found, outermost_simple};
+use parse_expr::{ended, found, outermost_simple, pushed};
 use parse_steps::{Reader, Stop};
 use sqlite_items::Items;
 use std::alloc::Global;
@@ -30,14 +30,14 @@ fn more_choices(
 ) -> Result<Items<Choice>, Stop>
     ensures { Reads (spec.more_choices most_operators levels first reader.old) result reader.new }
 {
-    let mut all = Items::new(alloc);
-    all.push(first)?;
+    let mut all = found!(pushed(Items::new(alloc), first));
     for _turn in 0..reader.left() {
         if !reader.at(TokenKind::Mark(Mark::Bar)) {
             return Ok(all);
         }
         found!(reader.expect(TokenKind::Mark(Mark::Bar)));
-        all.push(found!(one_choice(alloc, reader, levels)))?;
+        let next = found!(one_choice(alloc, reader, levels));
+        all = found!(pushed(all, next));
     }
     Ok(all)
 }

@@ -5,7 +5,7 @@ ghost use Rattle.parse_parts.specs.Parsing as spec;
 
 use ams_token::{Mark, TokenKind, Word};
 use ams_tree::Expr;
-use parse_expr::{found, listed_name};
+use parse_expr::{found, listed_name, pushed};
 use parse_steps::{Reader, Stop};
 use sqlite_items::Items;
 use std::alloc::Global;
@@ -20,14 +20,14 @@ fn more_listed(
 ) -> Result<Items<Expr>, Stop>
     ensures { Reads (spec.more_listed most_operators levels first reader.old) result reader.new }
 {
-    let mut all = Items::new(alloc);
-    all.push(first)?;
+    let mut all = found!(pushed(Items::new(alloc), first));
     for _turn in 0..reader.left() {
         if !reader.at(TokenKind::Mark(Mark::Comma)) {
             return Ok(all);
         }
         found!(reader.expect(TokenKind::Mark(Mark::Comma)));
-        all.push(found!(listed_name(alloc, reader, levels)))?;
+        let next = found!(listed_name(alloc, reader, levels));
+        all = found!(pushed(all, next));
     }
     Ok(all)
 }

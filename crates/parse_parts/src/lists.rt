@@ -6,7 +6,7 @@ ghost use Rattle.parse_parts.specs.Parsing as spec;
 
 use ams_token::{Mark, TokenKind, Word};
 use ams_tree::Name;
-use parse_expr::{found, name_of};
+use parse_expr::{found, name_of, pushed};
 use parse_steps::{Reader, Stop};
 use sqlite_items::Items;
 use std::alloc::Global;
@@ -30,14 +30,14 @@ pub fn name(reader: &mut Reader<'_>) -> Result<Name, Stop>
 pub fn more_names(alloc: Global, reader: &mut Reader<'_>, first: Name) -> Result<Items<Name>, Stop>
     ensures { Reads (spec.more_names first reader.old) result reader.new }
 {
-    let mut all = Items::new(alloc);
-    all.push(first)?;
+    let mut all = found!(pushed(Items::new(alloc), first));
     for _turn in 0..reader.left() {
         if !reader.at(COMMA) {
             return Ok(all);
         }
         found!(reader.expect(COMMA));
-        all.push(found!(name(reader)))?;
+        let next = found!(name(reader));
+        all = found!(pushed(all, next));
     }
     Ok(all)
 }

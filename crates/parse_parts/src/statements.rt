@@ -16,12 +16,22 @@ use std::alloc::Global;
 
 /// `end`, this word, and the semicolon, whose place it gives.
 #[tactic(auto, using(parse_steps::proofs::Steps::terminal_seen), unfolding(crate::specs::Parsing::ending))]
-pub fn ending(reader: &mut Reader<'_>, word: Word) -> Result<Place, Stop>
+fn ending(reader: &mut Reader<'_>, word: Word) -> Result<Place, Stop>
     ensures { Reads (spec.ending word reader.old) result reader.new }
 {
     found!(reader.expect(TokenKind::Word(Word::End)));
     found!(reader.expect(TokenKind::Word(word)));
     reader.expect(TokenKind::Mark(Mark::Semicolon))
+}
+
+/// A tree whose text ends with `end`, this word, and the semicolon.
+pub fn closed<T: Drop>(reader: &mut Reader<'_>, word: Word, tree: T) -> Result<T, Stop>
+    ensures { Reads (reading.and_then (spec.ending word reader.old) (λ _. reading.pure tree)) result reader.new }
+{
+    match ending(reader, word) {
+        Ok(_) => Ok(tree),
+        Err(stop) => Err(stop),
+    }
 }
 
 /// A string.

@@ -7,7 +7,7 @@ use crate::tokens::begins_delay;
 use ams_token::{Mark, TokenKind, Word};
 use ams_tree::{DelayMechanism, Expr, WaveformElement};
 use held_value::Held;
-use parse_expr::{ended, found, outermost};
+use parse_expr::{ended, found, outermost, pushed};
 use parse_steps::{Reader, Stop};
 use sqlite_items::Items;
 use std::alloc::Global;
@@ -96,14 +96,14 @@ fn more_elements(
 ) -> Result<Items<WaveformElement>, Stop>
     ensures { Reads (spec.more_elements most_operators levels first reader.old) result reader.new }
 {
-    let mut all = Items::new(alloc);
-    all.push(first)?;
+    let mut all = found!(pushed(Items::new(alloc), first));
     for _turn in 0..reader.left() {
         if !reader.at(TokenKind::Mark(Mark::Comma)) {
             return Ok(all);
         }
         found!(reader.expect(TokenKind::Mark(Mark::Comma)));
-        all.push(found!(waveform_element(alloc, reader, levels)))?;
+        let next = found!(waveform_element(alloc, reader, levels));
+        all = found!(pushed(all, next));
     }
     Ok(all)
 }

@@ -15,8 +15,8 @@ use crate::tokens::{begins_simple, begins_statement};
 use ams_token::{Place, TokenKind, Word};
 use ams_tree::{Alternative, Branch, Expr, Iteration, Seq};
 use held_value::Held;
-use parse_expr::{found, outermost};
-use parse_parts::{choices, ending, name, range};
+use parse_expr::{found, outermost, pushed};
+use parse_parts::{choices, closed, name, range};
 use parse_steps::{Reader, Stop};
 use sqlite_items::Items;
 use std::alloc::Global;
@@ -61,7 +61,8 @@ impl<F: Fn(Global, &mut Reader<'_>, u32) -> Result<Seq, Stop>> Statements<F> {
             if !begins_statement(reader.peek()) {
                 return Ok(all);
             }
-            all.push(found!(self.inner(reader)))?;
+            let next = found!(self.inner(reader));
+            all = found!(pushed(all, next));
         }
         Ok(all)
     }
@@ -94,7 +95,8 @@ impl<F: Fn(Global, &mut Reader<'_>, u32) -> Result<Seq, Stop>> Statements<F> {
                 return Ok(all);
             }
             found!(reader.expect(TokenKind::Word(Word::Elsif)));
-            all.push(found!(self.branch(reader)))?;
+            let next = found!(self.branch(reader));
+            all = found!(pushed(all, next));
         }
         Ok(all)
     }
@@ -116,12 +118,10 @@ impl<F: Fn(Global, &mut Reader<'_>, u32) -> Result<Seq, Stop>> Statements<F> {
         requires { Nests self.now.levels (F.pre self.now.nested) (F.post self.now.nested) }
         ensures { Reads (at_level spec.rest_of_if self.now.levels place first reader.old) result reader.new }
     {
-        let mut all = Items::new(self.alloc);
-        all.push(first)?;
+        let all = found!(pushed(Items::new(self.alloc), first));
         let all = found!(self.more_branches(reader, all));
-        let other = Held::new(found!(self.otherwise(reader)));
-        found!(ending(reader, Word::If));
-        Ok(Seq::If(place, all, other.into_inner()))
+        let other = found!(self.otherwise(reader));
+        closed(reader, Word::If, Seq::If(place, all, other))
     }
 
     #[tactic(auto, using(parse_steps::proofs::Steps::terminal_seen), unfolding(crate::specs::Parsing::if_statement))]
@@ -157,7 +157,8 @@ impl<F: Fn(Global, &mut Reader<'_>, u32) -> Result<Seq, Stop>> Statements<F> {
             if !reader.at(TokenKind::Word(Word::When)) {
                 return Ok(all);
             }
-            all.push(found!(self.alternative(reader)))?;
+            let next = found!(self.alternative(reader));
+            all = found!(pushed(all, next));
         }
         Ok(all)
     }
@@ -167,8 +168,8 @@ impl<F: Fn(Global, &mut Reader<'_>, u32) -> Result<Seq, Stop>> Statements<F> {
         requires { Nests self.now.levels (F.pre self.now.nested) (F.post self.now.nested) }
         ensures { Reads (at_level spec.alternatives self.now.levels reader.old) result reader.new }
     {
-        let mut all = Items::new(self.alloc);
-        all.push(found!(self.alternative(reader)))?;
+        let first = found!(self.alternative(reader));
+        let all = found!(pushed(Items::new(self.alloc), first));
         self.more_alternatives(reader, all)
     }
 
@@ -181,8 +182,11 @@ impl<F: Fn(Global, &mut Reader<'_>, u32) -> Result<Seq, Stop>> Statements<F> {
         let value = Held::new(found!(self.expression(reader)));
         found!(reader.expect(TokenKind::Word(Word::Is)));
         let all = found!(self.alternatives(reader));
-        found!(ending(reader, Word::Case));
-        Ok(Seq::Case(place, value.into_inner(), all))
+        closed(
+            reader,
+            Word::Case,
+            Seq::Case(place, value.into_inner(), all),
+        )
     }
 
     #[tactic(auto, using(parse_steps::proofs::Steps::terminal_seen), unfolding(crate::specs::Parsing::rest_of_loop))]
@@ -197,8 +201,11 @@ impl<F: Fn(Global, &mut Reader<'_>, u32) -> Result<Seq, Stop>> Statements<F> {
     {
         let iteration = Held::new(iteration);
         let body = found!(self.body(reader));
-        found!(ending(reader, Word::Loop));
-        Ok(Seq::Loop(place, iteration.into_inner(), body))
+        closed(
+            reader,
+            Word::Loop,
+            Seq::Loop(place, iteration.into_inner(), body),
+        )
     }
 
     #[tactic(auto, using(parse_steps::proofs::Steps::terminal_seen), unfolding(crate::specs::Parsing::parameter))]
