@@ -1,13 +1,13 @@
 -- Writing an entry.
-use Rattle.std.proofs.Common.{◌≡◌, ◌≤◌, ◌<◌, ◌+◌, ℕ, zero, suc, Bool, true, false, ℤ, pos, List, [], ◌∷◌, length, set, get_or, arith, refl, sym, ap, subst, ◌∙◌, inl, inr, ◌⊎◌}
-use Rattle.std.specs.Prelude.{nat_eq, nat_lt, if◌then◌else◌, unsigned_abs, insert, remove}
+use Rattle.std.proofs.Common.{◌≡◌, ◌≤◌, ◌<◌, ◌+◌, ℕ, zero, suc, true, false, ℤ, pos, List, [], ◌∷◌, length, set, get_or, arith, refl, sym, ap, ◌∙◌, inl, inr}
+use Rattle.std.specs.Prelude.{nat_eq, unsigned_abs, insert, remove}
 use Rattle.std.proofs.Math.Nat.{eq-zero-or-pos}
 use Rattle.std.proofs.lemmas.Int.{ints}
 use Rattle.std.proofs.lemmas.Bool.{cases_lt}
 use Rattle.fix_core.specs.Fixed.{IsInRange}
 use Rattle.sparse_rows.specs.declared.entry.Entry.{Entry}
 use Rattle.sparse_rows.specs.Entries.{filled, is_sparse, place_in, has_in, before, with_entry}
-use Rattle.sparse_rows.proofs.Sparse.{First, first, is_eq, not_eq, below_not_eq, is_lt, not_lt, filled_after, filled_at, sparse_after, sparse_more, sparse_none, sparse_before, length_sparse}
+use Rattle.sparse_rows.proofs.Sparse.{first, is_eq, not_eq, is_lt, not_lt, filled_after, filled_at, sparse_after, sparse_more, sparse_none, sparse_before, length_sparse}
 use Rattle.sparse_rows.proofs.Lookup.{here_or_after}
 
 -- ---- the parts of a write

@@ -1,15 +1,14 @@
 -- Finding an entry.
-use Rattle.std.proofs.Common.{◌≡◌, ◌≤◌, ◌<◌, ◌+◌, ℕ, zero, suc, Bool, true, false, ℤ, pos, List, [], ◌∷◌, length, drop, get_or, arith, refl, sym, ap, subst, ◌∙◌, inl, inr, ◌⊎◌, add-one, zero-add}
-use Rattle.std.specs.Prelude.{nat_eq, nat_lt, if◌then◌else◌}
+use Rattle.std.proofs.Common.{◌≡◌, ◌≤◌, ◌<◌, ◌+◌, ℕ, zero, suc, true, false, pos, List, [], ◌∷◌, length, drop, get_or, arith, refl, sym, subst, ◌∙◌, inl, inr, ◌⊎◌, zero-add}
+use Rattle.std.specs.Prelude.{nat_eq, if◌then◌else◌}
 use Rattle.std.proofs.lemmas.Bool.{cases_lt}
-use Rattle.std.proofs.lemmas.Bool.Decides.{nat_tests}
 use Rattle.std.proofs.lemmas.List.{drop_more, drop_all, get_or_default}
 use Rattle.std.specs.List.{All}
 use Rattle.fix_core.specs.Fixed.{IsInRange}
 use Rattle.fix_core.specs.Laws.{at_place}
 use Rattle.sparse_rows.specs.declared.entry.Entry.{Entry}
-use Rattle.sparse_rows.specs.Entries.{filled, is_sparse, value_in, place_in, has_in}
-use Rattle.sparse_rows.proofs.Sparse.{First, first, is_eq, not_eq, below_not_eq, is_lt, not_lt, filled_none, filled_after, filled_at, sparse_after, sparse_none, length-filled}
+use Rattle.sparse_rows.specs.Entries.{filled, is_sparse, value_in, place_in}
+use Rattle.sparse_rows.proofs.Sparse.{first, is_eq, not_eq, below_not_eq, is_lt, not_lt, filled_after, filled_at, sparse_after, sparse_none, length-filled}
 
 -- ---- from left to right
 

@@ -1,10 +1,8 @@
 -- A row that loses a multiple of another, from a column on.
-use Rattle.std.proofs.Common.{◌≡◌, ◌≤◌, ◌<◌, ◌+◌, ◌-◌, ℕ, zero, suc, Bool, true, false, ℤ, pos, List, [], ◌∷◌, ◌++◌, length, Result, Ok, Err, arith, refl, sym, ap, subst, ◌∙◌, inl, inr, ◌⊎◌, append_assoc}
-use Rattle.std.specs.Prelude.{nat_eq, nat_lt, if◌then◌else◌, unsigned_abs, min, ◌*ℤ◌}
+use Rattle.std.proofs.Common.{◌≡◌, ◌≤◌, ◌<◌, ◌+◌, ◌-◌, ℕ, zero, suc, true, false, ℤ, pos, List, [], ◌∷◌, ◌++◌, length, Ok, Err, arith, refl, sym, ap, ◌∙◌, inl, inr}
+use Rattle.std.specs.Prelude.{nat_eq, if◌then◌else◌, min}
 use Rattle.std.proofs.Math.IntN.{*ℤ-zero}
-use Rattle.std.proofs.lemmas.Int.{ints}
 use Rattle.std.proofs.lemmas.List.{append-nil}
-use Rattle.std.proofs.lemmas.Bool.{cases_lt}
 use Rattle.fix_core.specs.declared.NumFault.{NumFault}
 use Rattle.fix_core.specs.Rounding.{rnd, nearest}
 use Rattle.fix_core.specs.Passes.{and_then, joined}
@@ -14,9 +12,9 @@ use Rattle.lin_solve.specs.Elimination.{minus_row, reduced, coefficient}
 use Rattle.sparse_rows.specs.declared.entry.Entry.{Entry}
 use Rattle.sparse_rows.specs.Entries.{filled, is_sparse, before}
 use Rattle.sparse_rows.specs.Passes.{first_column, head_value, behind}
-use Rattle.sparse_rows.proofs.Sparse.{First, first, is_eq, not_eq, filled_after, filled_at, filled_none, sparse_after, sparse_more, sparse_none, sparse_before, length_sparse}
+use Rattle.sparse_rows.proofs.Sparse.{first, is_eq, not_eq, filled_after, filled_at, sparse_after, sparse_more, sparse_none, sparse_before, length_sparse}
 use Rattle.sparse_rows.proofs.Lookup.{here_or_after}
-use Rattle.sparse_rows.proofs.Edits.{before_none, before_some, sparse-before, filled-before}
+use Rattle.sparse_rows.proofs.Edits.{before_none, sparse-before, filled-before}
 
 -- ---- entries in a wider row, and one behind them
 

@@ -1,4 +1,4 @@
-use Rattle.std.proofs.Common.{rules, ◌≡◌, ◌+◌, ◌-◌, ◌<◌, ◌≤◌, ℤ, Err, true, sym, ap, ◌∙◌, arith}
+use Rattle.std.proofs.Common.{rules, ◌≡◌, ◌-◌, ℤ, Err, sym, ap, ◌∙◌, arith}
 use Rattle.fix_core.specs.Passes.{joined}
 use Rattle.fix_core.specs.Fixed.{IsInRange, product_of, difference_of}
 use Rattle.fix_core.specs.Laws.{difference_in_range}

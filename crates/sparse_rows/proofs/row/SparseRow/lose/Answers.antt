@@ -1,7 +1,6 @@
-use Rattle.std.proofs.Common.{rules, ◌≡◌, ◌<◌, ◌≤◌, ℤ, List, length, Ok, Err, sym, ap, ◌∙◌, arith}
+use Rattle.std.proofs.Common.{rules, ◌≡◌, ℤ, List, length, Err, sym, ap, ◌∙◌, arith}
 use Rattle.lin_solve.specs.Elimination.{minus_row}
 use Rattle.lin_solve.proofs.Steps.{minus_row-zero, zero_size}
-use Rattle.sparse_rows.specs.Entries.{filled}
 use Rattle.sparse_rows.proofs.Sparse.{length-filled, sparse_none}
 use Rattle.sparse_rows.proofs.Lookup.{filled-within}
 use Rattle.sparse_rows.proofs.Merging.{row_loses}
