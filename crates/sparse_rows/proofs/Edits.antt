@@ -1,24 +1,26 @@
 -- Writing an entry.
-use Rattle.std.proofs.Common.{◌≡◌, ◌≤◌, ◌<◌, ◌+◌, ℕ, zero, suc, Bool, true, false, ℤ, pos, List, [], ◌∷◌, length, set, get_or, arith, refl, sym, ap, subst, ◌∙◌, inl, inr, ◌⊎◌}
-use Rattle.std.specs.Prelude.{nat_eq, nat_lt, if◌then◌else◌, unsigned_abs, insert, remove}
+use Rattle.std.proofs.Common.{◌≡◌, ◌≤◌, ◌<◌, ◌+◌, ℕ, zero, suc, true, false, ℤ, pos, List, [], ◌∷◌, length, set, get_or, arith, refl, sym, ap, ◌∙◌, inl, inr}
+use Rattle.std.specs.Prelude.{nat_eq, unsigned_abs, insert, remove}
 use Rattle.std.proofs.Math.Nat.{eq-zero-or-pos}
 use Rattle.std.proofs.lemmas.Int.{ints}
 use Rattle.std.proofs.lemmas.Bool.{cases_lt}
 use Rattle.fix_core.specs.Fixed.{IsInRange}
 use Rattle.sparse_rows.specs.declared.entry.Entry.{Entry}
 use Rattle.sparse_rows.specs.Entries.{filled, is_sparse, place_in, has_in, before, with_entry}
-use Rattle.sparse_rows.proofs.Sparse.{First, first, is_eq, not_eq, below_not_eq, is_lt, not_lt, filled_after, filled_at, sparse_after, sparse_more, sparse_none, sparse_before, length_sparse}
+use Rattle.sparse_rows.proofs.Sparse.{first, is_eq, not_eq, is_lt, not_lt, filled_after, filled_at, sparse_after, sparse_more, sparse_none, sparse_before, length_sparse}
 use Rattle.sparse_rows.proofs.Lookup.{here_or_after}
 
 -- ---- the parts of a write
 
-before_none : (c : ℕ) (v : ℤ) (more : List Entry) → unsigned_abs v ≡ 0 → before c v more ≡ more
+pub before_none : (c : ℕ) (v : ℤ) (more : List Entry) → unsigned_abs v ≡ 0 → before c v more ≡ more
 unfolding before
 before_none c v more h = rw h refl
 
-before_some : (c : ℕ) (v : ℤ) (more : List Entry) → 0 < unsigned_abs v → before c v more ≡ record { column = c; value = v } ∷ more
+pub before_some : (c : ℕ) (v : ℤ) (more : List Entry) → 0 < unsigned_abs v → before c v more ≡ record { column = c; value = v } ∷ more
 unfolding before
 before_some c v more h = rw (not_eq (unsigned_abs v) 0 h) refl
+
+pub ruleset parts = (before_none, before_some)
 
 with_none : (c : ℕ) (v : ℤ) → with_entry c v [] ≡ before c v []
 unfolding with_entry
@@ -47,7 +49,7 @@ order a b = elim (cases_lt a b) [ inl lt ↦ less lt | inr le ↦ elim (cases_lt
 
 -- ---- what is written rises too
 
-sparse-before : (column width c : ℕ) (v : ℤ) (more : List Entry) → column ≤ c → c < width → IsInRange v → is_sparse (suc c) width more ≡ true → is_sparse column width (before c v more) ≡ true
+pub sparse-before : (column width c : ℕ) (v : ℤ) (more : List Entry) → column ≤ c → c < width → IsInRange v → is_sparse (suc c) width more ≡ true → is_sparse column width (before c v more) ≡ true
 sparse-before column width c v more from below in_range h =
     elim (eq-zero-or-pos (unsigned_abs v)) [
       | inl none ↦ rw (before_none c v more none) (sparse_before column (suc c) width more (omega (arith, from)) h)
@@ -66,7 +68,7 @@ sparse-with column width c v (e ∷ more) from below in_range h =
 
 -- ---- the row that is written
 
-filled-before : (column n width : ℕ) (v : ℤ) (more : List Entry) → is_sparse (suc column) width more ≡ true → filled column (suc n) (before column v more) ≡ v ∷ filled (suc column) n more
+pub filled-before : (column n width : ℕ) (v : ℤ) (more : List Entry) → is_sparse (suc column) width more ≡ true → filled column (suc n) (before column v more) ≡ v ∷ filled (suc column) n more
 filled-before column n width v more h =
     elim (eq-zero-or-pos (unsigned_abs v)) [
       | inl none ↦ let zero_is : pos 0 ≡ v = omega (arith, ints, none) in rw (before_none column v more none, filled_after column n width more h, zero_is) refl

@@ -1,13 +1,14 @@
 -- Finding an entry.
-use Rattle.std.proofs.Common.{◌≡◌, ◌≤◌, ◌<◌, ◌+◌, ℕ, zero, suc, Bool, true, false, ℤ, pos, List, [], ◌∷◌, length, drop, get_or, arith, refl, sym, ap, ◌∙◌, inl, inr, ◌⊎◌, add-one}
-use Rattle.std.specs.Prelude.{nat_eq, nat_lt, if◌then◌else◌}
+use Rattle.std.proofs.Common.{◌≡◌, ◌≤◌, ◌<◌, ◌+◌, ℕ, zero, suc, true, false, pos, List, [], ◌∷◌, length, drop, get_or, arith, refl, sym, subst, ◌∙◌, inl, inr, ◌⊎◌, zero-add}
+use Rattle.std.specs.Prelude.{nat_eq, if◌then◌else◌}
 use Rattle.std.proofs.lemmas.Bool.{cases_lt}
-use Rattle.std.proofs.lemmas.Bool.Decides.{nat_tests}
-use Rattle.std.proofs.lemmas.List.{drop_more, drop_all}
+use Rattle.std.proofs.lemmas.List.{drop_more, drop_all, get_or_default}
+use Rattle.std.specs.List.{All}
+use Rattle.fix_core.specs.Fixed.{IsInRange}
 use Rattle.fix_core.specs.Laws.{at_place}
 use Rattle.sparse_rows.specs.declared.entry.Entry.{Entry}
-use Rattle.sparse_rows.specs.Entries.{filled, is_sparse, value_in, place_in, has_in}
-use Rattle.sparse_rows.proofs.Sparse.{First, first, is_eq, not_eq, below_not_eq, is_lt, not_lt, filled_none, filled_after, filled_at, sparse_after, sparse_none}
+use Rattle.sparse_rows.specs.Entries.{filled, is_sparse, value_in, place_in}
+use Rattle.sparse_rows.proofs.Sparse.{first, is_eq, not_eq, below_not_eq, is_lt, not_lt, filled_after, filled_at, sparse_after, sparse_none, length-filled}
 
 -- ---- from left to right
 
@@ -89,3 +90,17 @@ filled_value column width (suc n) (suc k) c (e ∷ more) lt at h =
           let later = sparse_after column width e more gap h in
           rw (filled_after column n width (e ∷ more) later) (filled_value (suc column) width n k c (e ∷ more) (omega (arith, lt)) (omega (arith, at)) later)
     ]
+
+value-within : (c start width : ℕ) (es : List Entry) → is_sparse start width es ≡ true → IsInRange (value_in c es)
+unfolding value_in
+value-within c start width [] h = omega arith
+value-within c start width (e ∷ more) h =
+    let f = first start width e more h in
+    elim (nat_eq e.column c) as (λ t. IsInRange (if t then e.value else value_in c more)) [ true ↦ f.within | false ↦ value-within c (suc e.column) width more f.rest ]
+
+-- each entry of the row is a number
+pub filled-within : (width : ℕ) (es : List Entry) → is_sparse 0 width es ≡ true → All IsInRange (filled 0 width es)
+filled-within width es h = λ k d lt.
+    let inside : k < width = omega (arith, lt, length-filled 0 width es) in
+    let is = get_or_default (filled 0 width es) k d (pos 0) lt ∙ filled_value 0 width width k k es inside (sym (zero-add k)) h in
+    subst IsInRange (sym is) (value-within k 0 width es h)

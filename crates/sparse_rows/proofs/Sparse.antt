@@ -1,5 +1,5 @@
 -- Entries that rise, and the rows that they fill.
-use Rattle.std.proofs.Common.{◌≡◌, ◌≤◌, ◌<◌, ◌+◌, ℕ, zero, suc, Bool, true, false, ℤ, pos, List, [], ◌∷◌, length, replicate, arith, refl, sym, ap, ◌∙◌}
+use Rattle.std.proofs.Common.{◌≡◌, ◌≤◌, ◌<◌, ◌+◌, ℕ, zero, suc, Bool, true, false, ℤ, pos, List, [], ◌∷◌, length, replicate, arith, refl, ap}
 use Rattle.std.specs.Prelude.{nat_eq, nat_lt, nat_le, ◌&&◌, unsigned_abs, if◌then◌else◌}
 use Rattle.std.proofs.lemmas.Bool.Decides.{nat_tests}
 use Rattle.fix_core.specs.Units.{most_units}

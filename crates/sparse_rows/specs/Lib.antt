@@ -1,3 +1,4 @@
 pub mod Entries
 pub mod Row
 pub mod System
+pub mod Passes

@@ -2,7 +2,10 @@
 #![tactic(auto)]
 
 mod entry;
+mod passes;
 mod row;
 mod rows;
+#[cfg(test)]
+mod tests;
 
 pub use rows::SparseRows;

@@ -1,10 +1,14 @@
 //! A row that keeps its non-zero entries.
 ghost use Rattle.std.specs.Prelude.{◌≡◌, ◌<◌, length, pos, replicate, slice_index_or, slice_set, IfOk};
+ghost use Rattle.fix_core.specs.Passes.{answer};
+ghost use Rattle.lin_solve.specs.Elimination.{minus_row, reduced};
 
 use crate::entry::{Entry, value_at, write};
-use fix_core::Fix;
+use crate::passes::merge;
+use fix_core::{Fix, NumFault};
 use std::alloc::{AllocError, Global};
 use std::marker::Model;
+use std::mem::swap;
 
 /// A row of so many entries, of which those that aren't 0 are kept in the order of their columns. There is room for all.
 #[derive(Drop)]
@@ -67,5 +71,45 @@ impl SparseRow {
         // What is asked of the number is its range, for the proof.
         let _ = v.magnitude();
         write(&mut self.entries, column, v);
+    }
+    /// Each entry loses `factor` times the pivot row's entry in the same column. What `spare` holds afterwards is left open.
+    pub fn lose(
+        &mut self,
+        factor: Fix,
+        pivot: &SparseRow,
+        spare: &mut SparseRow,
+    ) -> Result<(), NumFault>
+        requires pivot { length pivot.now ≡ length self.old }
+        requires spare { length spare.old ≡ length self.old }
+        ensures answer { minus_row factor pivot.now self.old ≡ answer result self.new }
+        ensures width { length self.new ≡ length self.old }
+        ensures spare { length spare.new ≡ length self.old }
+    {
+        let width = self.width;
+        if factor.magnitude() == 0 {
+            return Ok(());
+        }
+        spare.entries.clear();
+        let (pivot, row) = (pivot.entries.as_slice(), self.entries.as_slice());
+        merge(factor, pivot, row, 0, width, &mut spare.entries)?;
+        swap(&mut self.entries, &mut spare.entries);
+        Ok(())
+    }
+    /// Takes the pivot row off, as often as clears the column. A row that has nothing in the column stays as it is.
+    pub fn reduce(
+        &mut self,
+        pivot: &SparseRow,
+        column: usize,
+        spare: &mut SparseRow,
+    ) -> Result<(), NumFault>
+        requires column { column < length self.old }
+        requires pivot { length pivot.now ≡ length self.old }
+        requires spare { length spare.old ≡ length self.old }
+        ensures answer { reduced column pivot.now self.old ≡ answer result self.new }
+        ensures width { length self.new ≡ length self.old }
+        ensures spare { length spare.new ≡ length self.old }
+    {
+        let factor = self.get(column).div(pivot.get(column))?;
+        self.lose(factor, pivot, spare)
     }
 }

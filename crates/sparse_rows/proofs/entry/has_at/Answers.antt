@@ -1,4 +1,4 @@
-use Rattle.std.proofs.Common.{◌≡◌, ◌<◌, ◌≤◌, length, sym, ◌∙◌, subst, refl}
+use Rattle.std.proofs.Common.{sym, refl}
 use Rattle.sparse_rows.proofs.Sparse.{not_lt}
 use Rattle.sparse_rows.proofs.Edits.{has_at, has_past}
 use Rattle.sparse_rows.proofs.entry.has_at.Goals as goal

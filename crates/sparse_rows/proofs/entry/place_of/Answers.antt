@@ -1,4 +1,4 @@
-use Rattle.std.proofs.Common.{◌≡◌, arith}
+use Rattle.std.proofs.Common.{arith}
 use Rattle.sparse_rows.proofs.Lookup.{place_here, place_later}
 use Rattle.sparse_rows.proofs.entry.place_of.Goals as goal
 

@@ -1,4 +1,4 @@
-use Rattle.std.proofs.Common.{◌≡◌, sym, ◌∙◌, arith}
+use Rattle.std.proofs.Common.{sym, ◌∙◌}
 use Rattle.sparse_rows.proofs.Lookup.{value_here, value_later}
 use Rattle.sparse_rows.proofs.entry.value_at.Goals as goal
 

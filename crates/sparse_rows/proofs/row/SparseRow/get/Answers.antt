@@ -1,4 +1,4 @@
-use Rattle.std.proofs.Common.{◌≡◌, ◌<◌, ℤ, pos, List, get_or, length, sym, ap, ◌∙◌, arith, zero-add}
+use Rattle.std.proofs.Common.{◌<◌, ℤ, pos, List, get_or, length, sym, ap, ◌∙◌, arith, zero-add}
 use Rattle.sparse_rows.specs.Entries.{value_in}
 use Rattle.sparse_rows.proofs.Sparse.{length-filled}
 use Rattle.sparse_rows.proofs.Lookup.{filled_value}

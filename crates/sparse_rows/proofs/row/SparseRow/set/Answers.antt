@@ -1,4 +1,4 @@
-use Rattle.std.proofs.Common.{◌≡◌, ◌<◌, ◌≤◌, ℤ, List, set, length, sym, ap, ◌∙◌, arith, zero-add}
+use Rattle.std.proofs.Common.{◌<◌, ℤ, List, set, length, sym, ap, ◌∙◌, arith, zero-add}
 use Rattle.fix_core.specs.Fixed.{IsInRange}
 use Rattle.sparse_rows.specs.Entries.{filled}
 use Rattle.sparse_rows.proofs.Sparse.{length-filled}
