@@ -14,7 +14,7 @@ use flat_expr::{DelayMechanism, FlatExpr};
 use message_codes::{RANGE, TIME_OVERFLOW};
 use step_data::Refusal;
 
-fn ticks(value: Val) -> i64
+pub fn ticks(value: Val) -> i64
     ensures { result ≡ ticks_of value }
 {
     match value {

@@ -4,7 +4,9 @@
 mod activation;
 mod condition;
 mod delay;
+mod element;
 
 pub use activation::{Activation, evaluated};
 pub use condition::holds;
 pub use delay::{delay_of, is_bad_delay, limit_of, time_after, timeout_of};
+pub use element::{Subtypes, Timed, assigned_value, parts_make_assignments, transaction};
