@@ -12,8 +12,8 @@ use Rattle.lockstep_model.specs.declared.moves.Moved.TheVariants as says
 use Rattle.lockstep_model.specs.Works.{Run, Work, Worked, Tried, cycles_at, steps_at}
 use Rattle.lockstep_model.specs.Lockstep.{first_standing}
 use Rattle.lockstep_model.specs.Walk.{Walk, Move, Awaited, Ready, Looking, Settling, Broken, Reply, NoReply, Here, Nothing, Consumed, ask_of, was_consumed}
-use Rattle.mixed_cycle.specs.Held.{Held, Step, Decides, Makes, Stops, rest_of, next_of, first_held}
-use Rattle.mixed_cycle.specs.Ready.{ready}
+use Rattle.cycle_machine.specs.Held.{Held, Step, Decides, Makes, Stops, rest_of, next_of, first_held}
+use Rattle.cycle_machine.specs.Ready.{ready}
 
 -- what the engine stands for between two moves: what it holds, the awaited reply, the tip and the frame that an ask
 -- names, and how many attempts were its own and how many cycles there were

@@ -13,8 +13,8 @@ use Rattle.lockstep_model.specs.Works as kinds
 use Rattle.lockstep_model.specs.Crossing.{Bounds, differs, is_near}
 use Rattle.lockstep_model.specs.Lockstep as l
 use Rattle.lockstep_model.specs.Lockstep.{AttemptEnd, PhaseStep, Following, goes_on, phase, locate}
-use Rattle.mixed_cycle.specs.Held as h
-use Rattle.mixed_cycle.specs.Held.{Stage, Held, begun, crossed, rest_of, rest_by, run_of, next_of, next_by}
+use Rattle.cycle_machine.specs.Held as h
+use Rattle.cycle_machine.specs.Held.{Stage, Held, begun, crossed, rest_of, rest_by, run_of, next_of, next_by}
 
 begin-is : (sys : System) (c n : ℕ) (to_time : Bool) (p : RunState) → begun sys c n to_time p ≡ rest_of sys (h.begin c n to_time p)
 begin-is sys zero n to_time p = refl

@@ -1,5 +1,5 @@
-use Rattle.mixed_cycle.specs.Ready.{ready_is, ready_ready}
-use Rattle.mixed_cycle.proofs.decisions_are_few.Goals as goal
+use Rattle.cycle_machine.specs.Ready.{ready_is, ready_ready}
+use Rattle.cycle_machine.proofs.decisions_are_few.Goals as goal
 
 pub returns-clause-run : goal.returns-clause-run
 returns-clause-run c = ready_is

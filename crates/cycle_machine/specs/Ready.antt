@@ -9,9 +9,9 @@ use Rattle.lockstep_model.specs.RunStates.{RunState}
 use Rattle.lockstep_model.specs.Crossing.{Bounds, differs, is_near}
 use Rattle.lockstep_model.specs.Lockstep as l
 use Rattle.lockstep_model.specs.Lockstep.{PhaseStep, Following}
-use Rattle.mixed_cycle.specs.Held as h
-use Rattle.mixed_cycle.specs.Held.{Stage, Held, Step, Decides, Makes, Stops, rest_of, run_of, next_of, next_by, decisions_at}
-use Rattle.mixed_cycle.specs.NextLaws.{next_is}
+use Rattle.cycle_machine.specs.Held as h
+use Rattle.cycle_machine.specs.Held.{Stage, Held, Step, Decides, Makes, Stops, rest_of, run_of, next_of, next_by, decisions_at}
+use Rattle.cycle_machine.specs.NextLaws.{next_is}
 
 abbrev pub after : Step → Held → Held
 after (Decides new) old = new

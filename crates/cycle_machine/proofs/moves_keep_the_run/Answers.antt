@@ -1,5 +1,5 @@
-use Rattle.mixed_cycle.specs.RunLaws.{moving_keeps, moving_costs, moving_begins}
-use Rattle.mixed_cycle.proofs.moves_keep_the_run.Goals as goal
+use Rattle.cycle_machine.specs.RunLaws.{moving_keeps, moving_costs, moving_begins}
+use Rattle.cycle_machine.proofs.moves_keep_the_run.Goals as goal
 
 pub returns-clause-keeps : goal.returns-clause-keeps
 returns-clause-keeps c = moving_keeps

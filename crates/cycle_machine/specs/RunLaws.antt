@@ -14,11 +14,11 @@ use Rattle.lockstep_model.specs.Works.{Work, Worked, Tried}
 use Rattle.lockstep_model.specs.Walk as w
 use Rattle.lockstep_model.specs.Walk.{Awaited, Ready, Looking, Settling, Broken, Reply, NoReply, Here, Nothing, Consumed, Keeps, Costs, Begins, Fits}
 use Rattle.lockstep_model.specs.WalkLaws.{moved_keeps, moved_costs, moved_begins}
-use Rattle.mixed_cycle.specs.Held.{Held, Step, Decides, Makes, Stops, next_of}
-use Rattle.mixed_cycle.specs.Ready.{after, decided, ready, IsReady, ready_ready}
-use Rattle.mixed_cycle.specs.Moves as moves
-use Rattle.mixed_cycle.specs.Moves.{Moment, Moving, walk_of, move_of, moving, IsAhead}
-use Rattle.mixed_cycle.specs.MoveLaws.{moving_is, looks_ahead}
+use Rattle.cycle_machine.specs.Held.{Held, Step, Decides, Makes, Stops, next_of}
+use Rattle.cycle_machine.specs.Ready.{after, decided, ready, IsReady, ready_ready}
+use Rattle.cycle_machine.specs.Moves as moves
+use Rattle.cycle_machine.specs.Moves.{Moment, Moving, walk_of, move_of, moving, IsAhead}
+use Rattle.cycle_machine.specs.MoveLaws.{moving_is, looks_ahead}
 
 pub moving_keeps : (sys : System) (m : Moment) (reply : Reply) → IsAhead sys m → Keeps (walk_of sys m) (move_of sys (moving sys m reply))
 moving_keeps sys m reply t =

@@ -9,11 +9,11 @@ ghost use Rattle.step_data.specs.declared.outcome.End.{End};
 ghost use Rattle.step_model.specs.System.{System};
 ghost use Rattle.lockstep_model.specs.declared.moves.Moved.TheVariants.{Ended};
 ghost use Rattle.lockstep_model.specs.Lockstep.{lockstep};
-ghost use Rattle.mixed_cycle.specs.Held.{Held, rest_of, run_of, next_of, first_held};
-ghost use Rattle.mixed_cycle.specs.Ready.{ready, IsReady};
-ghost use Rattle.mixed_cycle.specs.Moves.{Moment, walk_of, move_of, moving, first_moment, IsAhead};
+ghost use Rattle.cycle_machine.specs.Held.{Held, rest_of, run_of, next_of, first_held};
+ghost use Rattle.cycle_machine.specs.Ready.{ready, IsReady};
+ghost use Rattle.cycle_machine.specs.Moves.{Moment, walk_of, move_of, moving, first_moment, IsAhead};
 ghost use Rattle.lockstep_model.specs.Walk.{Reply, Broken, Fits, Keeps, Costs, Begins, LooksAhead, first_walk, moved};
-ghost use Rattle.mixed_cycle.specs.RunLaws.{ends_with};
+ghost use Rattle.cycle_machine.specs.RunLaws.{ends_with};
 
 /// Before the start the whole run is left. It is proved, and does nothing when it runs.
 pub fn all_is_left()

@@ -11,11 +11,11 @@ use Rattle.lockstep_model.specs.RunStates.{RunState}
 use Rattle.lockstep_model.specs.Works.{Run, Work, Worked, Tried}
 use Rattle.lockstep_model.specs.Walk as w
 use Rattle.lockstep_model.specs.Walk.{Move, Awaited, Ready, Looking, Settling, Broken, Reply, NoReply, Here, Nothing, Consumed}
-use Rattle.mixed_cycle.specs.Held.{Held, Step, Decides, Makes, Stops, rest_of, run_of, next_of}
-use Rattle.mixed_cycle.specs.NextLaws.{next_is}
-use Rattle.mixed_cycle.specs.Ready.{ready, IsReady, ready_is, ready_ready}
-use Rattle.mixed_cycle.specs.Moves as moves
-use Rattle.mixed_cycle.specs.Moves.{Moment, walk_with, walk_of, move_of, IsTried, AheadOf, IsAhead}
+use Rattle.cycle_machine.specs.Held.{Held, Step, Decides, Makes, Stops, rest_of, run_of, next_of}
+use Rattle.cycle_machine.specs.NextLaws.{next_is}
+use Rattle.cycle_machine.specs.Ready.{ready, IsReady, ready_is, ready_ready}
+use Rattle.cycle_machine.specs.Moves as moves
+use Rattle.cycle_machine.specs.Moves.{Moment, walk_with, walk_of, move_of, IsTried, AheadOf, IsAhead}
 
 -- the moves of a moment's walk, where another run is left
 abbrev proceeds : Moment → Run → Move

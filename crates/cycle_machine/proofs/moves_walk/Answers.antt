@@ -1,5 +1,5 @@
-use Rattle.mixed_cycle.specs.MoveLaws.{moving_is, moving_ahead, looks_ahead}
-use Rattle.mixed_cycle.proofs.moves_walk.Goals as goal
+use Rattle.cycle_machine.specs.MoveLaws.{moving_is, moving_ahead, looks_ahead}
+use Rattle.cycle_machine.proofs.moves_walk.Goals as goal
 
 pub returns-clause-walk : goal.returns-clause-walk
 returns-clause-walk c = moving_is
