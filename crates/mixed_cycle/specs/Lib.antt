@@ -1,0 +1,5 @@
+pub mod Choosing
+pub mod Decided
+pub mod Deciding
+pub mod Machine
+pub mod Standing
