@@ -1,6 +1,6 @@
 -- The branches that were chosen, by what the choice answered.
-use Rattle.std.specs.Prelude.{◌≡◌, ℕ, Bool, true, false, List, Result, Ok, Err, refl}
-use Rattle.std.proofs.Common.{ap, sym, ◌∙◌}
+use Rattle.std.specs.Prelude.{◌≡◌, ℕ, Bool, true, false, List, Result, Ok, Err}
+use Rattle.std.proofs.Common.{ap, ◌∙◌}
 use Rattle.step_data.specs.declared.outcome.Cause.{Cause}
 use Rattle.step_data.specs.declared.outcome.Settled.{Settled}
 use Rattle.step_data.specs.declared.outcome.Settled.TheVariants.{Good, Refused}

@@ -1,21 +1,18 @@
 -- Decisions keep what is true of a place.
-use Rattle.std.specs.Prelude.{◌≡◌, ℕ, ◌+◌, ◌-◌, ◌≤◌, ◌<◌, ◌==◌, ◌||◌, Bool, true, false, not, cond, nat_le, List, length, IfSome, Option, Some, None, min, refl}
-use Rattle.std.proofs.Common.{ap, sym, subst, ◌∙◌, arith}
-use Rattle.std.proofs.lemmas.Grind.{common_steps}
+use Rattle.std.specs.Prelude.{◌≡◌, ℕ, ◌+◌, ◌-◌, ◌≤◌, ◌<◌, ◌==◌, ◌||◌, Bool, true, false, not, cond, nat_le, List, length, IfSome, Option, Some, None, refl}
+use Rattle.std.proofs.Common.{subst, arith}
 use Rattle.std.proofs.lemmas.Bool.Decides.{nat_tests}
 use Rattle.ams_value.specs.declared.val.Val.{Val}
 use Rattle.step_data.specs.declared.tip.Tip.{Tip}
-use Rattle.step_model.specs.declared.kernel_stage.KernelStage.TheVariants.{Going}
 use Rattle.step_model.specs.Kernel.{KernelState}
-use Rattle.step_model.specs.System.{System, Digital}
-use Rattle.lockstep_model.specs.Lockstep as l
+use Rattle.step_model.specs.System.{System}
 use Rattle.lockstep_model.specs.Lockstep.{until_of, stands}
 use Rattle.lockstep_model.specs.Crossing.{is_near}
 use Rattle.above_events.specs.Locating.{with_point}
 use Rattle.run_place.specs.declared.place.Place.{Place}
 use Rattle.run_place.specs.declared.place.Stage.TheVariants as stages
 use Rattle.run_place.specs.Decisions as c
-use Rattle.mixed_cycle.specs.Standing.{Fits, PlaceFits, Goes, IsPlaced, IsDelta, IsPhase, IsSearch, StandsBy, Stands, pending, cycles_ahead}
+use Rattle.mixed_cycle.specs.Standing.{PlaceFits, Goes, IsPlaced, IsDelta, IsPhase, IsSearch, StandsBy, Stands, pending}
 
 -- a delta is begun where its cycle may be made
 pub began_stands : (sys : System) (k : KernelState) (frame : List Val) (cycles : ℕ) (to_time : Bool) (p : Place) → PlaceFits sys p → IsDelta sys k frame p.time p.timed p.tip to_time → cycles + p.cycles_left ≤ 200000 → Stands sys k frame cycles (c.began to_time p)

@@ -7,11 +7,10 @@ use Rattle.step_data.specs.declared.outcome.ChooseKind.TheVariants.{Timed}
 use Rattle.step_model.specs.declared.kernel_stage.KernelStage.{KernelStage}
 use Rattle.step_model.specs.declared.kernel_stage.KernelStage.TheVariants.{Going}
 use Rattle.step_model.specs.Kernel.{KernelState}
-use Rattle.step_model.specs.System.{System, Digital}
+use Rattle.step_model.specs.System.{System}
 use Rattle.lockstep_model.specs.Lockstep.{stands, until_of, branches_or}
 use Rattle.lockstep_model.specs.Crossing.{is_near}
 use Rattle.above_events.specs.Locating.{with_point}
-use Rattle.cycle_machine.specs.Held.{Held}
 use Rattle.cycle_machine.specs.Ready.{decided}
 use Rattle.run_place.specs.declared.place.Place.{Place}
 use Rattle.run_place.specs.declared.place.Stage.TheVariants as stages
@@ -20,9 +19,9 @@ use Rattle.run_place.specs.Giving.{chosen_of, olds_of}
 use Rattle.run_place.specs.Decisions as c
 use Rattle.run_place.specs.DecisionLaws.{placed_decides, delta_decides, phase_decides, search_decides}
 use Rattle.mixed_cycle.specs.declared.machine.Machine.{Machine}
-use Rattle.mixed_cycle.specs.Standing.{Stands, StandsBy, Goes, IsPlaced, IsDelta, IsPhase, IsSearch, digital_at, digital_by, cycles_ahead, pending}
+use Rattle.mixed_cycle.specs.Standing.{Stands, StandsBy, IsPlaced, IsDelta, IsPhase, IsSearch, digital_at, digital_by, cycles_ahead, pending}
 use Rattle.mixed_cycle.specs.Decided.{placed_stands, delta_stands, phase_stands, search_stands}
-use Rattle.mixed_cycle.specs.Machine.{Sound, Decides, HasRoom, moment_of, moment_with}
+use Rattle.mixed_cycle.specs.Machine.{Sound, Decides, moment_with}
 
 -- decisions keep the tip
 began-tip : (b : Bool) (p : Place) → (c.began b p).tip ≡ p.tip

@@ -1,5 +1,11 @@
 pub mod Choosing
+pub mod Cycling
 pub mod Decided
 pub mod Deciding
+pub mod Gathering
 pub mod Machine
+pub mod Making
+pub mod Searching
+pub mod Solving
 pub mod Standing
+pub mod Starting

@@ -1,18 +1,13 @@
 -- What a machine stands for, and what is true of it between two moves.
-use Rattle.std.specs.Prelude.{◌≡◌, ℕ, ◌<◌, ◌^◌, ◌++◌, Bool, List, length, IsTrue, Result, OnOk, OnErr, IfOk}
-use Rattle.std.specs.declared.alloc.AllocError.{AllocError}
-use Rattle.ams_value.specs.declared.val.Val.{Val}
+use Rattle.std.specs.Prelude.{◌≡◌, ℕ, ◌<◌, ◌^◌, length, IsTrue}
 use Rattle.step_data.specs.Options.{IsAllowed}
-use Rattle.step_data.specs.declared.event.Event.{Event}
 use Rattle.step_data.specs.declared.tip.Tip.{Tip}
-use Rattle.step_model.specs.Counts.{more}
-use Rattle.step_model.specs.Kernel.{KernelState, AddsFront}
+use Rattle.step_model.specs.Kernel.{KernelState}
 use Rattle.step_model.specs.System.{System}
 use Rattle.lockstep_model.specs.Walk as w
-use Rattle.lockstep_model.specs.declared.moves.Moved.{Moved}
 use Rattle.cycle_machine.specs.Held.{Held}
 use Rattle.cycle_machine.specs.Ready.{decided}
-use Rattle.cycle_machine.specs.Moves.{Moment, Moving, walk_of, IsAhead}
+use Rattle.cycle_machine.specs.Moves.{Moment}
 use Rattle.run_place.specs.Places.{held_of}
 use Rattle.mixed_cycle.specs.declared.machine.Awaited.{Awaited}
 use Rattle.mixed_cycle.specs.declared.machine.Awaited.TheVariants.{Ready, Looking, Settling, Broken}

@@ -1,5 +1,5 @@
 -- What is true between two moves of where a run stands.
-use Rattle.std.specs.Prelude.{◌≡◌, ℕ, ◌+◌, ◌-◌, ◌≤◌, ◌<◌, Bool, true, false, ℤ, List, length, All, IsTrue, IfSome, Option}
+use Rattle.std.specs.Prelude.{◌≡◌, ℕ, ◌+◌, ◌-◌, ◌≤◌, ◌<◌, Bool, true, false, ℤ, List, length, All, IsTrue, IfSome}
 use Rattle.ams_value.specs.declared.val.Val.{Val}
 use Rattle.step_data.specs.declared.breaks.Element.{Element}
 use Rattle.step_data.specs.declared.tip.Tip.{Tip}

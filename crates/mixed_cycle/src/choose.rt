@@ -1,14 +1,15 @@
 //! The branches of the equations that give a point.
 
-ghost use Rattle.std.specs.Prelude.{◌≡◌, length};
-ghost use Rattle.lockstep_model.specs.Lockstep.{branches_or, solution_kind};
+ghost use Rattle.std.specs.Prelude.{◌≡◌, ℕ, List, IsTrue, length};
+ghost use Rattle.lockstep_model.specs.Lockstep.{branches_or};
 ghost use Rattle.step_data.specs.declared.outcome.ChooseKind.TheVariants as kinds;
 ghost use Rattle.run_place.specs.Giving.{chosen_of, olds_of};
 ghost use Rattle.mixed_cycle.specs.Machine.{Sound};
 ghost use Rattle.mixed_cycle.specs.Choosing.{is_good};
 
 use crate::machine::Machine;
-use step_data::{ChooseKind, Settled};
+use fix_core::Tick;
+use step_data::{Choices, ChooseKind, Frame, Point, Settled};
 use step_model::{Design, Kernel, Stepper};
 
 /// It was solved.
@@ -16,6 +17,29 @@ fn is_good(settled: Settled) -> bool
     ensures { result ≡ is_good settled }
 {
     matches!(settled, Settled::Good)
+}
+
+/// The branches at a time and these values, unless a condition has a fault.
+#[tactic(auto, using(crate::specs::Choosing::chosen_is))]
+pub(crate) fn choose<D: Design, S: Stepper<D>>(
+    stepper: &mut S,
+    frame: &Frame,
+    t: Tick,
+    kind: ChooseKind,
+    x: &Point,
+    out: &mut Choices,
+) -> bool
+    requires part { S.part stepper.old ≡ 0 }
+    requires frame { IsTrue ((D.system 0).is_frame frame.now) }
+    requires point { length x.now ≡ (D.system 0).unknowns }
+    requires room { length out.old ≡ (D.system 0).choices }
+    ensures chosen { (olds : List ℕ) → chosen_of result out.new olds ≡ branches_or olds ((D.system 0).choose frame.now t kind x.now) }
+    ensures length { length out.new ≡ (D.system 0).choices }
+    ensures count { S.count stepper.new ≡ S.count stepper.old }
+    ensures part { S.part stepper.new ≡ 0 }
+{
+    let settled = stepper.choose(frame, t, kind, x, out);
+    is_good(settled)
 }
 
 impl<D: Design, S: Stepper<D>, K: Kernel<D>> Machine<D, S, K> {

@@ -3,6 +3,7 @@
 ghost use Rattle.std.specs.Prelude.{◌≡◌};
 ghost use Rattle.run_place.specs.declared.place.Stage.TheVariants as stages;
 ghost use Rattle.mixed_cycle.specs.Machine.{Sound, Decides};
+ghost use Rattle.mixed_cycle.specs.Making.{Readies};
 
 use crate::machine::Machine;
 use run_place::Stage;
@@ -16,7 +17,8 @@ impl<D: Design, S: Stepper<D>, K: Kernel<D>> Machine<D, S, K> {
         ensures { Decides (D.system 0) S.part S.count K.state self.old self.new }
     {
         let next = self.kernel.next_time();
-        self.place.decide_place(&next, &self.frame, self.options.stop);
+        self.place
+            .decide_place(&next, &self.frame, self.options.stop);
     }
 
     /// In a phase: the arrival, or a step.
@@ -60,5 +62,15 @@ impl<D: Design, S: Stepper<D>, K: Kernel<D>> Machine<D, S, K> {
             Stage::InSearch => self.decide_search(),
             Stage::Unstarted | Stage::InCycle { .. } | Stage::Finished(_) => {}
         }
+    }
+
+    /// All decisions: at most three come one behind the other.
+    pub(crate) fn make_ready(&mut self)
+        requires { Sound (D.system 0) S.part K.state self.old }
+        ensures { Readies (D.system 0) S.part S.count K.state self.old self.new }
+    {
+        self.decide();
+        self.decide();
+        self.decide();
     }
 }

@@ -3,6 +3,8 @@ use Rattle.std.specs.Prelude.{◌≡◌, ℕ, ℤ, Bool, if◌then◌else◌, Li
 use Rattle.step_data.specs.declared.event.Event.{Event}
 use Rattle.step_data.specs.declared.event.Event.TheVariants.{Solved}
 use Rattle.lockstep_model.specs.Lockstep.{branch_events}
+use Rattle.lockstep_model.specs.Crossing.{is_near}
+use Rattle.above_events.specs.Locating.{with_point}
 use Rattle.run_place.specs.declared.place.Place.{Place}
 use Rattle.run_place.specs.Places.{branches_of}
 
@@ -24,3 +26,8 @@ changes_at p t n is_chosen branches = branch_events t n 0 (chosen_of is_chosen b
 
 abbrev pub point_at : Place → ℕ → ℕ → List ℤ → Bool → List ℕ → List Event
 point_at p t n x is_chosen branches = changes_at p t n is_chosen branches ++ Solved t n x ∷ []
+
+-- the point at the later bound is given where the bounds are near enough
+abbrev pub bound_at : Place → Bool → List ℕ → List Event
+bound_at p is_chosen branches =
+    if is_near p.search.xres (with_point p.search p.at_hi) then point_at p p.search.hi 0 p.at_hi is_chosen branches else []

@@ -1,7 +1,8 @@
 -- What each work leaves at a place.
-use Rattle.std.specs.Prelude.{ℕ, ◌/◌, Bool, true, ◌||◌, max, List, Option, Some, if◌then◌else◌}
+use Rattle.std.specs.Prelude.{ℕ, ◌/◌, Bool, true, ◌||◌, ◌==◌, max, List, Option, Some, None, if◌then◌else◌}
 use Rattle.ams_value.specs.declared.val.Val.{Val}
 use Rattle.message_codes.specs.Codes as codes
+use Rattle.step_data.specs.declared.outcome.Cause.{Cause}
 use Rattle.step_data.specs.declared.outcome.End.TheVariants.{Refused}
 use Rattle.step_data.specs.declared.outcome.Refusal.{Refusal}
 use Rattle.run_place.specs.declared.place.Place.{Place}
@@ -43,3 +44,12 @@ halved_left step p = record p { tip = record p.tip { h = step / 2 } }
 
 abbrev pub sided_left : ℕ → Option ℕ → Bool → List ℕ → Place → Place
 sided_left t next is_chosen branches p = arrived_at next (stepped_at t is_chosen branches p)
+
+-- a solution was refused; singular equations tell the column
+abbrev pub unsolvable_left : Cause → Place → Place
+unsolvable_left cause p =
+    record p { stage = Finished (Refused p.time (record { code = cause.code; detail = if cause.code == codes.singular then Some cause.column else None })) }
+
+-- the start was made
+abbrev pub started_left : Bool → Place → Place
+started_left broke p = record p { stage = Placed; broke = broke }

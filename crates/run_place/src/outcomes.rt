@@ -2,15 +2,15 @@
 
 ghost use Rattle.std.specs.Prelude.{◌≡◌, ◌≤◌, ◌<◌, ◌-◌, max, length};
 ghost use Rattle.step_data.specs.Steps.{next};
-ghost use Rattle.run_place.specs.Outcomes.{too_small, solution_left, refused_left, cycled_left, crossed_left, halved_left, sided_left, renewed_at};
+ghost use Rattle.run_place.specs.Outcomes.{started_left, too_small, unsolvable_left, solution_left, refused_left, cycled_left, crossed_left, halved_left, sided_left, renewed_at};
 ghost use Rattle.run_place.specs.Decisions.{chosen_at, stepped_at};
 
 use crate::place::{Place, Stage};
 use above_events::Locate;
 use fix_core::Tick;
-use message_codes::STEP_TOO_SMALL;
+use message_codes::{SINGULAR, STEP_TOO_SMALL};
 use std::mem::swap;
-use step_data::{Attempt, Choices, End, Frame, Kind, Options, Refusal, Tip};
+use step_data::{Attempt, Cause, Choices, End, Frame, Kind, Options, Refusal, Tip};
 
 /// The tip goes on behind an attempt from it; the one before is kept.
 pub fn go_on(before: &mut Tip, tip: &mut Tip, made: &Attempt)
@@ -71,6 +71,24 @@ impl Place {
         });
     }
 
+    /// A solution was refused.
+    pub fn end_unsolvable(&mut self, cause: Cause)
+        ensures { self.new ≡ unsolvable_left cause self.old }
+    {
+        let detail = if cause.code == SINGULAR {
+            Some(cause.column)
+        } else {
+            None
+        };
+        self.stage = Stage::Finished(End::Refused {
+            t: self.time,
+            refusal: Refusal {
+                code: cause.code,
+                detail,
+            },
+        });
+    }
+
     /// A call of the digital side was refused.
     pub fn end_refused(&mut self, refusal: Refusal)
         ensures { self.new ≡ refused_left refusal self.old }
@@ -114,6 +132,14 @@ impl Place {
             self.solved.copy_from(frame);
             self.is_solved = true;
         }
+    }
+
+    /// The start was made.
+    pub fn start(&mut self, broke: bool)
+        ensures { self.new ≡ started_left broke self.old }
+    {
+        self.stage = Stage::Placed;
+        self.broke = broke;
     }
 
     /// A cycle was made; the elements that it executed are gathered.

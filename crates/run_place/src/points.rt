@@ -134,4 +134,42 @@ impl Place {
         self.give_changes(out, at, is_chosen, branches)?;
         give_solved(alloc, out, at, x)
     }
+
+    /// Gives the point that processes read, at the time and the delta.
+    pub fn give_here(
+        &self,
+        alloc: Global,
+        out: &mut EventList,
+        is_chosen: bool,
+        branches: &Choices,
+    ) -> Result<(), AllocError>
+        requires few { length branches.now < 2 ^ 32 }
+        requires lengths { length self.now.branches ≡ length branches.now }
+        ensures ok { OnOk result (out.new ≡ out.old ++ point_at self.now self.now.time self.now.delta self.now.point is_chosen branches.now) }
+        ensures err { OnErr result (AddsFront out.old out.new (point_at self.now self.now.time self.now.delta self.now.point is_chosen branches.now)) }
+    {
+        let at = Reached {
+            t: self.time,
+            n: self.delta,
+        };
+        self.give_point(alloc, out, &at, &self.point, is_chosen, branches)
+    }
+
+    /// Gives the values at the later bound, at a time and its first delta.
+    pub fn give_bound(
+        &self,
+        alloc: Global,
+        out: &mut EventList,
+        t: Tick,
+        is_chosen: bool,
+        branches: &Choices,
+    ) -> Result<(), AllocError>
+        requires few { length branches.now < 2 ^ 32 }
+        requires lengths { length self.now.branches ≡ length branches.now }
+        ensures ok { OnOk result (out.new ≡ out.old ++ point_at self.now t 0 self.now.at_hi is_chosen branches.now) }
+        ensures err { OnErr result (AddsFront out.old out.new (point_at self.now t 0 self.now.at_hi is_chosen branches.now)) }
+    {
+        let at = Reached { t, n: 0 };
+        self.give_point(alloc, out, &at, &self.at_hi, is_chosen, branches)
+    }
 }
