@@ -16,3 +16,10 @@ none_is_near xres b e = none-near (is_near xres b) (middle b) e
 
 pub some_is_far : (xres : ℕ) (b : Bounds) (n : ℕ) → middle_of xres b ≡ Some n → false ≡ is_near xres b
 some_is_far xres b n e = some-far (is_near xres b) (middle b) n e
+
+some-middle : (b : Bool) (m n : ℕ) → cond b None (Some m) ≡ Some n → n ≡ m
+some-middle true m n e = cc
+some-middle false m n e = cc
+
+pub some_is_middle : (xres : ℕ) (b : Bounds) (n : ℕ) → middle_of xres b ≡ Some n → n ≡ middle b
+some_is_middle xres b n e = some-middle (is_near xres b) (middle b) n e

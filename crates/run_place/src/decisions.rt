@@ -132,7 +132,7 @@ impl Place {
     }
 
     /// The later bound of a crossing.
-    fn later(&self) -> Tick
+    pub(crate) fn later(&self) -> Tick
         ensures { result ≡ self.now.search.hi }
     {
         self.search.hi()

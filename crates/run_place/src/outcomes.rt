@@ -1,7 +1,12 @@
 //! What each work leaves.
 
-ghost use Rattle.std.specs.Prelude.{◌≡◌, ◌≤◌, ◌<◌, ◌-◌, max, length};
+ghost use Rattle.std.specs.Prelude.{◌≡◌, ◌≤◌, ◌<◌, ◌-◌, max, length, false, ℤ, List, Result};
 ghost use Rattle.step_data.specs.Steps.{next};
+ghost use Rattle.step_data.specs.declared.outcome.Cause.{Cause};
+ghost use Rattle.step_model.specs.Answers.{trial_answer, trial_point};
+ghost use Rattle.step_model.specs.System.{Landing};
+ghost use Rattle.lockstep_model.specs.Crossing.{is_near, middle, narrowed};
+ghost use Rattle.above_events.specs.Locating.{with_point};
 ghost use Rattle.run_place.specs.Outcomes.{started_left, too_small, unsolvable_left, solution_left, refused_left, cycled_left, crossed_left, halved_left, sided_left, renewed_at};
 ghost use Rattle.run_place.specs.Decisions.{chosen_at, stepped_at};
 
@@ -10,7 +15,9 @@ use above_events::Locate;
 use fix_core::Tick;
 use message_codes::{SINGULAR, STEP_TOO_SMALL};
 use std::mem::swap;
-use step_data::{Attempt, Cause, Choices, End, Frame, Kind, Options, Refusal, Tip};
+use step_data::{
+    Attempt, Cause, Choices, End, Frame, Kind, Point, Refusal, ThresholdList, Tip, Trial,
+};
 
 /// The tip goes on behind an attempt from it; the one before is kept.
 pub fn go_on(before: &mut Tip, tip: &mut Tip, made: &Attempt)
@@ -199,5 +206,31 @@ impl Place {
     {
         self.step_to(t, is_chosen, branches);
         self.arrive(next);
+    }
+
+    /// How far the next probe goes.
+    pub fn probe_step(&self) -> u64
+        requires far { is_near self.now.search.xres (with_point self.now.search self.now.at_hi) ≡ false }
+        requires order { self.now.tip.t ≤ self.now.search.lo }
+        ensures { result ≡ middle (with_point self.now.search self.now.at_hi) - self.now.tip.t }
+    {
+        match self.search.middle() {
+            Some(middle) => middle.get() - self.tip.t.get(),
+            None => 0,
+        }
+    }
+
+    /// Narrows the bounds by the answer of the step to the middle, which left its values in `x`.
+    pub fn narrow(&mut self, answer: Trial, thresholds: &ThresholdList, x: &mut Point)
+        requires far { self.old.search.xres < self.old.search.hi - self.old.search.lo }
+        requires room { length x.old ≡ length self.old.at_hi }
+        ensures bounds { (step : Result Landing Cause) (tip : List ℤ) → answer ≡ trial_answer step → x.old ≡ trial_point tip step →
+            with_point self.new.search self.new.at_hi ≡ narrowed thresholds.now (with_point self.old.search self.old.at_hi) step }
+        ensures xres { self.new.search.xres ≡ self.old.search.xres }
+        ensures lengths { (length x.new ≡ length x.old) × (length self.new.at_hi ≡ length self.old.at_hi) }
+        ensures same { self.new ≡ record self.old { search = self.new.search; at_hi = self.new.at_hi } }
+    {
+        self.search
+            .narrow_by(answer, thresholds, x, &mut self.at_hi);
     }
 }

@@ -6,7 +6,7 @@ ghost use Rattle.step_model.specs.Kernel.{AddsFront};
 ghost use Rattle.lockstep_model.specs.Lockstep.{branch_event, branch_events};
 ghost use Rattle.step_data.specs.declared.event.Event.TheVariants.{Solved};
 ghost use Rattle.run_place.specs.Places.{branches_of};
-ghost use Rattle.run_place.specs.Giving.{changes_at, point_at};
+ghost use Rattle.run_place.specs.Giving.{changes_at, point_at, bound_at};
 
 use crate::place::Place;
 use fix_core::Tick;
@@ -171,5 +171,26 @@ impl Place {
     {
         let at = Reached { t, n: 0 };
         self.give_point(alloc, out, &at, &self.at_hi, is_chosen, branches)
+    }
+
+    /// Gives the values at the later bound where the bounds are near enough.
+    pub fn give_near(
+        &self,
+        alloc: Global,
+        out: &mut EventList,
+        is_chosen: bool,
+        branches: &Choices,
+    ) -> Result<(), AllocError>
+        requires few { length branches.now < 2 ^ 32 }
+        requires lengths { length self.now.branches ≡ length branches.now }
+        ensures ok { OnOk result (out.new ≡ out.old ++ bound_at self.now is_chosen branches.now) }
+        ensures err { OnErr result (AddsFront out.old out.new (bound_at self.now is_chosen branches.now)) }
+    {
+        if self.is_near() {
+            let t = self.later();
+            self.give_bound(alloc, out, t, is_chosen, branches)
+        } else {
+            Ok(())
+        }
     }
 }
