@@ -1,6 +1,11 @@
-pub mod Held
-pub mod MoveLaws
-pub mod Moves
-pub mod NextLaws
-pub mod Ready
-pub mod RunLaws
+pub mod Choosing
+pub mod Cycling
+pub mod Decided
+pub mod Deciding
+pub mod Gathering
+pub mod Machine
+pub mod Making
+pub mod Searching
+pub mod Solving
+pub mod Standing
+pub mod Starting

@@ -1,0 +1,6 @@
+pub mod Held
+pub mod MoveLaws
+pub mod Moves
+pub mod NextLaws
+pub mod Ready
+pub mod RunLaws

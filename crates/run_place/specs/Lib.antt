@@ -1,0 +1,5 @@
+pub mod DecisionLaws
+pub mod Outcomes
+pub mod Decisions
+pub mod Places
+pub mod Giving
