@@ -7,7 +7,7 @@ ghost use Rattle.ams_parser.specs.Parsing as spec;
 use ams_token::{Mark, TokenKind, Word};
 use ams_tree::{DesignUnit, Name, Path};
 use parse_decl::word_said;
-use parse_expr::{ended, found, name_of, pushed};
+use parse_expr::name_of;
 use parse_parts::{name, names};
 use parse_steps::{Reader, Stop};
 use sqlite_items::Items;
@@ -23,19 +23,17 @@ const SEMICOLON: TokenKind = TokenKind::Mark(Mark::Semicolon);
 fn prefix_name(reader: &mut Reader<'_>) -> Result<Name, Stop>
     ensures { Reads (spec.prefix_name reader.old) result reader.new }
 {
-    let found = found!(name(reader));
-    ended(reader, POINT, found)
+    let found = name(reader)?;
+    reader.expect(POINT)?;
+    Ok(found)
 }
 
 #[tactic(auto, unfolding(crate::specs::Parsing::all_of))]
 fn all_of(reader: &mut Reader<'_>, names: Items<Name>) -> Result<Path, Stop>
     ensures { Reads (spec.all_of names reader.old) result reader.new }
 {
-    ended(
-        reader,
-        TokenKind::Word(Word::All),
-        Path { names, all: true },
-    )
+    reader.expect(TokenKind::Word(Word::All))?;
+    Ok(Path { names, all: true })
 }
 
 #[tactic(auto, using(parse_steps::proofs::Steps::terminal_seen), unfolding(crate::specs::Parsing::path_end))]
@@ -45,8 +43,8 @@ fn path_end(reader: &mut Reader<'_>, mut names: Items<Name>) -> Result<Path, Sto
     let Some(name) = name_of(reader.peek()) else {
         return all_of(reader, names);
     };
-    found!(reader.take(true, 0));
-    names = found!(pushed(names, name));
+    reader.take(true, 0)?;
+    names.push(name)?;
     Ok(Path { names, all: false })
 }
 
@@ -54,17 +52,18 @@ fn path_end(reader: &mut Reader<'_>, mut names: Items<Name>) -> Result<Path, Sto
 fn rest_of_path(alloc: Global, reader: &mut Reader<'_>, first: Name) -> Result<Path, Stop>
     ensures { Reads (spec.rest_of_path first reader.old) result reader.new }
 {
-    let mut names = found!(pushed(Items::new(alloc), first));
+    let mut names = Items::new(alloc);
+    names.push(first)?;
     for _turn in 0..reader.left() {
         let Some(name) = name_of(reader.peek()) else {
             return all_of(reader, names);
         };
-        found!(reader.take(true, 0));
-        names = found!(pushed(names, name));
+        reader.take(true, 0)?;
+        names.push(name)?;
         if !reader.at(POINT) {
             return Ok(Path { names, all: false });
         }
-        found!(reader.expect(POINT));
+        reader.expect(POINT)?;
     }
     path_end(reader, names)
 }
@@ -73,7 +72,7 @@ fn rest_of_path(alloc: Global, reader: &mut Reader<'_>, first: Name) -> Result<P
 fn path(alloc: Global, reader: &mut Reader<'_>) -> Result<Path, Stop>
     ensures { Reads (spec.path reader.old) result reader.new }
 {
-    let first = found!(prefix_name(reader));
+    let first = prefix_name(reader)?;
     rest_of_path(alloc, reader, first)
 }
 
@@ -84,7 +83,7 @@ fn some_name(reader: &mut Reader<'_>) -> Result<Option<Name>, Stop>
     let Some(name) = name_of(reader.peek()) else {
         return Ok(None);
     };
-    found!(reader.take(true, 0));
+    reader.take(true, 0)?;
     Ok(Some(name))
 }
 
@@ -93,33 +92,35 @@ fn some_name(reader: &mut Reader<'_>) -> Result<Option<Name>, Stop>
 pub fn unit_end(reader: &mut Reader<'_>, word: Word) -> Result<(bool, Option<Name>), Stop>
     ensures { Reads (spec.unit_end word reader.old) result reader.new }
 {
-    found!(reader.expect(TokenKind::Word(Word::End)));
-    let said = found!(word_said(reader, word));
-    let again = found!(some_name(reader));
-    ended(reader, SEMICOLON, (said, again))
+    reader.expect(TokenKind::Word(Word::End))?;
+    let said = word_said(reader, word)?;
+    let again = some_name(reader)?;
+    reader.expect(SEMICOLON)?;
+    Ok((said, again))
 }
 
 #[tactic(auto, unfolding(crate::specs::Parsing::library_clause))]
 pub fn library_clause(alloc: Global, reader: &mut Reader<'_>) -> Result<DesignUnit, Stop>
     ensures { Reads (spec.library_clause reader.old) result reader.new }
 {
-    found!(reader.expect(TokenKind::Word(Word::Library)));
-    let ids = found!(names(alloc, reader));
-    ended(reader, SEMICOLON, DesignUnit::Library(ids))
+    reader.expect(TokenKind::Word(Word::Library))?;
+    let ids = names(alloc, reader)?;
+    reader.expect(SEMICOLON)?;
+    Ok(DesignUnit::Library(ids))
 }
 
 #[tactic(auto, unfolding(crate::specs::Parsing::more_paths))]
 fn more_paths(alloc: Global, reader: &mut Reader<'_>, first: Path) -> Result<Items<Path>, Stop>
     ensures { Reads (spec.more_paths first reader.old) result reader.new }
 {
-    let mut all = found!(pushed(Items::new(alloc), first));
+    let mut all = Items::new(alloc);
+    all.push(first)?;
     for _turn in 0..reader.left() {
         if !reader.at(COMMA) {
             return Ok(all);
         }
-        found!(reader.expect(COMMA));
-        let next = found!(path(alloc, reader));
-        all = found!(pushed(all, next));
+        reader.expect(COMMA)?;
+        all.push(path(alloc, reader)?)?;
     }
     Ok(all)
 }
@@ -128,8 +129,9 @@ fn more_paths(alloc: Global, reader: &mut Reader<'_>, first: Path) -> Result<Ite
 pub fn use_clause(alloc: Global, reader: &mut Reader<'_>) -> Result<DesignUnit, Stop>
     ensures { Reads (spec.use_clause reader.old) result reader.new }
 {
-    found!(reader.expect(TokenKind::Word(Word::Use)));
-    let first = found!(path(alloc, reader));
-    let all = found!(more_paths(alloc, reader, first));
-    ended(reader, SEMICOLON, DesignUnit::Use(all))
+    reader.expect(TokenKind::Word(Word::Use))?;
+    let first = path(alloc, reader)?;
+    let all = more_paths(alloc, reader, first)?;
+    reader.expect(SEMICOLON)?;
+    Ok(DesignUnit::Use(all))
 }

@@ -9,7 +9,6 @@ use crate::contexts::unit_end;
 use ams_token::{Mark, TokenKind, Word};
 use ams_tree::{DesignUnit, Entity, Generic, Name, Port};
 use parse_decl::{generic, port_declaration};
-use parse_expr::{ended, found, pushed};
 use parse_parts::name;
 use parse_steps::{Reader, Stop};
 use sqlite_items::Items;
@@ -30,14 +29,14 @@ fn more_generics(
 ) -> Result<Items<Generic>, Stop>
     ensures { Reads (spec.more_generics most_operators levels first reader.old) result reader.new }
 {
-    let mut all = found!(pushed(Items::new(alloc), first));
+    let mut all = Items::new(alloc);
+    all.push(first)?;
     for _turn in 0..reader.left() {
         if !reader.at(SEMICOLON) {
             return Ok(all);
         }
-        found!(reader.expect(SEMICOLON));
-        let next = found!(generic(alloc, reader, levels));
-        all = found!(pushed(all, next));
+        reader.expect(SEMICOLON)?;
+        all.push(generic(alloc, reader, levels)?)?;
     }
     Ok(all)
 }
@@ -46,7 +45,7 @@ fn more_generics(
 fn generics(alloc: Global, reader: &mut Reader<'_>, levels: u32) -> Result<Items<Generic>, Stop>
     ensures { Reads (spec.generics most_operators levels reader.old) result reader.new }
 {
-    let first = found!(generic(alloc, reader, levels));
+    let first = generic(alloc, reader, levels)?;
     more_generics(alloc, reader, levels, first)
 }
 
@@ -58,11 +57,12 @@ fn generic_clause(
 ) -> Result<Items<Generic>, Stop>
     ensures { Reads (spec.generic_clause most_operators levels reader.old) result reader.new }
 {
-    found!(reader.expect(TokenKind::Word(Word::Generic)));
-    found!(reader.expect_within(OPEN, levels > 0, 0));
-    let all = found!(generics(alloc, reader, levels.saturating_sub(1)));
-    found!(reader.expect(CLOSE));
-    ended(reader, SEMICOLON, all)
+    reader.expect(TokenKind::Word(Word::Generic))?;
+    reader.expect_within(OPEN, levels > 0, 0)?;
+    let all = generics(alloc, reader, levels.saturating_sub(1))?;
+    reader.expect(CLOSE)?;
+    reader.expect(SEMICOLON)?;
+    Ok(all)
 }
 
 #[tactic(auto, unfolding(crate::specs::Parsing::some_generics))]
@@ -88,14 +88,14 @@ fn more_ports(
 ) -> Result<Items<Port>, Stop>
     ensures { Reads (spec.more_ports most_operators levels first reader.old) result reader.new }
 {
-    let mut all = found!(pushed(Items::new(alloc), first));
+    let mut all = Items::new(alloc);
+    all.push(first)?;
     for _turn in 0..reader.left() {
         if !reader.at(SEMICOLON) {
             return Ok(all);
         }
-        found!(reader.expect(SEMICOLON));
-        let next = found!(port_declaration(alloc, reader, levels));
-        all = found!(pushed(all, next));
+        reader.expect(SEMICOLON)?;
+        all.push(port_declaration(alloc, reader, levels)?)?;
     }
     Ok(all)
 }
@@ -104,7 +104,7 @@ fn more_ports(
 fn ports(alloc: Global, reader: &mut Reader<'_>, levels: u32) -> Result<Items<Port>, Stop>
     ensures { Reads (spec.ports most_operators levels reader.old) result reader.new }
 {
-    let first = found!(port_declaration(alloc, reader, levels));
+    let first = port_declaration(alloc, reader, levels)?;
     more_ports(alloc, reader, levels, first)
 }
 
@@ -112,11 +112,12 @@ fn ports(alloc: Global, reader: &mut Reader<'_>, levels: u32) -> Result<Items<Po
 fn port_clause(alloc: Global, reader: &mut Reader<'_>, levels: u32) -> Result<Items<Port>, Stop>
     ensures { Reads (spec.port_clause most_operators levels reader.old) result reader.new }
 {
-    found!(reader.expect(TokenKind::Word(Word::Port)));
-    found!(reader.expect_within(OPEN, levels > 0, 0));
-    let all = found!(ports(alloc, reader, levels.saturating_sub(1)));
-    found!(reader.expect(CLOSE));
-    ended(reader, SEMICOLON, all)
+    reader.expect(TokenKind::Word(Word::Port))?;
+    reader.expect_within(OPEN, levels > 0, 0)?;
+    let all = ports(alloc, reader, levels.saturating_sub(1))?;
+    reader.expect(CLOSE)?;
+    reader.expect(SEMICOLON)?;
+    Ok(all)
 }
 
 #[tactic(auto, unfolding(crate::specs::Parsing::some_ports))]
@@ -133,9 +134,10 @@ fn some_ports(alloc: Global, reader: &mut Reader<'_>, levels: u32) -> Result<Ite
 fn entity_head(reader: &mut Reader<'_>) -> Result<Name, Stop>
     ensures { Reads (spec.entity_head reader.old) result reader.new }
 {
-    found!(reader.expect(TokenKind::Word(Word::Entity)));
-    let found = found!(name(reader));
-    ended(reader, TokenKind::Word(Word::Is), found)
+    reader.expect(TokenKind::Word(Word::Entity))?;
+    let found = name(reader)?;
+    reader.expect(TokenKind::Word(Word::Is))?;
+    Ok(found)
 }
 
 /// An entity, in which `levels` parentheses may be open.
@@ -143,10 +145,10 @@ fn entity_head(reader: &mut Reader<'_>) -> Result<Name, Stop>
 pub fn entity(alloc: Global, reader: &mut Reader<'_>, levels: u32) -> Result<DesignUnit, Stop>
     ensures { Reads (spec.entity most_operators levels reader.old) result reader.new }
 {
-    let name = found!(entity_head(reader));
-    let generics = found!(some_generics(alloc, reader, levels));
-    let ports = found!(some_ports(alloc, reader, levels));
-    let (word_end, end) = found!(unit_end(reader, Word::Entity));
+    let name = entity_head(reader)?;
+    let generics = some_generics(alloc, reader, levels)?;
+    let ports = some_ports(alloc, reader, levels)?;
+    let (word_end, end) = unit_end(reader, Word::Entity)?;
     Ok(DesignUnit::Entity(Entity {
         name,
         generics,

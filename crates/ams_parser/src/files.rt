@@ -11,7 +11,6 @@ use ams_token::{Token, TokenKind, Word};
 use ams_tree::{Architecture, Concurrent, Declaration, DesignFile, DesignUnit, Name};
 use parse_conc::{any_concurrent, begins_concurrent};
 use parse_decl::{any_declaration, begins_declaration};
-use parse_expr::{ended, found, pushed};
 use parse_parts::{name, name_after};
 use parse_steps::{Reader, Stop};
 use sqlite_items::Items;
@@ -38,10 +37,11 @@ fn begins_unit(next: Option<Token>) -> bool
 fn architecture_head(reader: &mut Reader<'_>) -> Result<(Name, Name), Stop>
     ensures { Reads (spec.architecture_head reader.old) result reader.new }
 {
-    found!(reader.expect(TokenKind::Word(Word::Architecture)));
-    let found = found!(name(reader));
-    let entity = found!(name_after(reader, Word::Of));
-    ended(reader, TokenKind::Word(Word::Is), (found, entity))
+    reader.expect(TokenKind::Word(Word::Architecture))?;
+    let found = name(reader)?;
+    let entity = name_after(reader, Word::Of)?;
+    reader.expect(TokenKind::Word(Word::Is))?;
+    Ok((found, entity))
 }
 
 #[tactic(auto, unfolding(crate::specs::Files::declarations))]
@@ -57,8 +57,7 @@ fn declarations(
         if !begins_declaration(reader.peek()) {
             return Ok(all);
         }
-        let next = found!(any_declaration(alloc, reader, levels));
-        all = found!(pushed(all, next));
+        all.push(any_declaration(alloc, reader, levels)?)?;
     }
     Ok(all)
 }
@@ -76,8 +75,7 @@ fn statements(
         if !begins_concurrent(reader.peek()) {
             return Ok(all);
         }
-        let next = found!(any_concurrent(alloc, reader, levels));
-        all = found!(pushed(all, next));
+        all.push(any_concurrent(alloc, reader, levels)?)?;
     }
     Ok(all)
 }
@@ -86,11 +84,11 @@ fn statements(
 fn architecture(alloc: Global, reader: &mut Reader<'_>, levels: u32) -> Result<DesignUnit, Stop>
     ensures { Reads (spec.architecture most_operators levels reader.old) result reader.new }
 {
-    let (name, entity) = found!(architecture_head(reader));
-    let declarations = found!(declarations(alloc, reader, levels));
-    found!(reader.expect(TokenKind::Word(Word::Begin)));
-    let statements = found!(statements(alloc, reader, levels));
-    let (word_end, end) = found!(unit_end(reader, Word::Architecture));
+    let (name, entity) = architecture_head(reader)?;
+    let declarations = declarations(alloc, reader, levels)?;
+    reader.expect(TokenKind::Word(Word::Begin))?;
+    let statements = statements(alloc, reader, levels)?;
+    let (word_end, end) = unit_end(reader, Word::Architecture)?;
     Ok(DesignUnit::Architecture(Architecture {
         name,
         entity,
@@ -126,8 +124,7 @@ fn units(alloc: Global, reader: &mut Reader<'_>, levels: u32) -> Result<Items<De
         if !begins_unit(reader.peek()) {
             return Ok(all);
         }
-        let next = found!(design_unit(alloc, reader, levels));
-        all = found!(pushed(all, next));
+        all.push(design_unit(alloc, reader, levels)?)?;
     }
     Ok(all)
 }
@@ -137,6 +134,6 @@ fn units(alloc: Global, reader: &mut Reader<'_>, levels: u32) -> Result<Items<De
 pub fn design_file(alloc: Global, reader: &mut Reader<'_>, levels: u32) -> Result<DesignFile, Stop>
     ensures { Reads (spec.design_file most_operators levels reader.old) result reader.new }
 {
-    let units = found!(units(alloc, reader, levels));
+    let units = units(alloc, reader, levels)?;
     Ok(DesignFile { units })
 }

@@ -6,13 +6,11 @@ ghost use Rattle.parse_conc.specs.Parsing as spec;
 use ams_token::{Mark, TokenKind, Word};
 use ams_tree::{ConcurrentStatement, ConditionalWaveform, Expr, WaveformElement};
 use held_value::Held;
-use parse_expr::{ended, found, outermost, pushed};
+use parse_expr::outermost;
 use parse_parts::{maybe_delay, name, waveform};
 use parse_steps::{Reader, Stop};
 use sqlite_items::Items;
 use std::alloc::Global;
-
-const SEMICOLON: TokenKind = TokenKind::Mark(Mark::Semicolon);
 
 /// The waveforms before an `else`, the last one, and its condition.
 type Waveforms = (
@@ -25,7 +23,7 @@ type Waveforms = (
 fn when_condition(alloc: Global, reader: &mut Reader<'_>, levels: u32) -> Result<Expr, Stop>
     ensures { Reads (spec.when_condition most_operators levels reader.old) result reader.new }
 {
-    found!(reader.expect(TokenKind::Word(Word::When)));
+    reader.expect(TokenKind::Word(Word::When))?;
     outermost(alloc, reader, levels)
 }
 
@@ -37,7 +35,7 @@ fn else_waveform(
 ) -> Result<Items<WaveformElement>, Stop>
     ensures { Reads (spec.else_waveform most_operators levels reader.old) result reader.new }
 {
-    found!(reader.expect(TokenKind::Word(Word::Else)));
+    reader.expect(TokenKind::Word(Word::Else))?;
     waveform(alloc, reader, levels)
 }
 
@@ -57,18 +55,15 @@ fn more_waveforms(
         if !reader.at(TokenKind::Word(Word::When)) {
             return Ok((conditional, last, None));
         }
-        let condition = Held::new(found!(when_condition(alloc, reader, levels)));
+        let condition = Held::new(when_condition(alloc, reader, levels)?);
         if !reader.at(TokenKind::Word(Word::Else)) {
             return Ok((conditional, last, Some(condition.into_inner())));
         }
-        let next = found!(else_waveform(alloc, reader, levels));
-        conditional = found!(pushed(
-            conditional,
-            ConditionalWaveform {
-                elements: last,
-                condition: condition.into_inner(),
-            }
-        ));
+        let next = else_waveform(alloc, reader, levels)?;
+        conditional.push(ConditionalWaveform {
+            elements: last,
+            condition: condition.into_inner(),
+        })?;
         last = next;
     }
     Ok((conditional, last, None))
@@ -82,7 +77,7 @@ fn conditional_waveforms(
 ) -> Result<Waveforms, Stop>
     ensures { Reads (spec.conditional_waveforms most_operators levels reader.old) result reader.new }
 {
-    let first = found!(waveform(alloc, reader, levels));
+    let first = waveform(alloc, reader, levels)?;
     more_waveforms(alloc, reader, levels, first)
 }
 
@@ -95,13 +90,17 @@ pub fn concurrent_assignment(
 ) -> Result<ConcurrentStatement, Stop>
     ensures { Reads (spec.concurrent_assignment most_operators levels reader.old) result reader.new }
 {
-    let target = found!(name(reader));
-    found!(reader.expect(TokenKind::Mark(Mark::LessEqual)));
-    let delay = Held::new(found!(maybe_delay(alloc, reader, levels)));
-    let (conditional, last, condition) = found!(conditional_waveforms(alloc, reader, levels));
-    ended(
-        reader,
-        SEMICOLON,
-        ConcurrentStatement::Assign(target, delay.into_inner(), conditional, last, condition),
-    )
+    let target = name(reader)?;
+    reader.expect(TokenKind::Mark(Mark::LessEqual))?;
+    let delay = Held::new(maybe_delay(alloc, reader, levels)?);
+    let (conditional, last, condition) = conditional_waveforms(alloc, reader, levels)?;
+    let condition = Held::new(condition);
+    reader.expect(TokenKind::Mark(Mark::Semicolon))?;
+    Ok(ConcurrentStatement::Assign(
+        target,
+        delay.into_inner(),
+        conditional,
+        last,
+        condition.into_inner(),
+    ))
 }

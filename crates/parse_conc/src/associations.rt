@@ -6,7 +6,7 @@ ghost use Rattle.parse_conc.specs.Parsing as spec;
 use crate::tokens::name_then;
 use ams_token::{Mark, TokenKind, Word};
 use ams_tree::{Association, Name};
-use parse_expr::{ended, found, outermost, pushed};
+use parse_expr::outermost;
 use parse_parts::name;
 use parse_steps::{Reader, Stop};
 use sqlite_items::Items;
@@ -22,10 +22,10 @@ fn actual(
     ensures { Reads (spec.actual most_operators levels formal reader.old) result reader.new }
 {
     if reader.at(TokenKind::Word(Word::Open)) {
-        let place = found!(reader.expect(TokenKind::Word(Word::Open)));
+        let place = reader.expect(TokenKind::Word(Word::Open))?;
         return Ok(Association::Open(formal, place));
     }
-    Ok(Association::Actual(formal, found!(outermost(alloc, reader, levels))))
+    Ok(Association::Actual(formal, outermost(alloc, reader, levels)?))
 }
 
 #[tactic(auto, using(parse_steps::proofs::Steps::terminal_seen), unfolding(crate::specs::Parsing::named_association))]
@@ -36,8 +36,8 @@ fn named_association(
 ) -> Result<Association, Stop>
     ensures { Reads (spec.named_association most_operators levels reader.old) result reader.new }
 {
-    let formal = found!(name(reader));
-    found!(reader.expect(TokenKind::Mark(Mark::Arrow)));
+    let formal = name(reader)?;
+    reader.expect(TokenKind::Mark(Mark::Arrow))?;
     actual(alloc, reader, levels, Some(formal))
 }
 
@@ -60,14 +60,14 @@ fn more_associations(
 ) -> Result<Items<Association>, Stop>
     ensures { Reads (spec.more_associations most_operators levels first reader.old) result reader.new }
 {
-    let mut all = found!(pushed(Items::new(alloc), first));
+    let mut all = Items::new(alloc);
+    all.push(first)?;
     for _turn in 0..reader.left() {
         if !reader.at(TokenKind::Mark(Mark::Comma)) {
             return Ok(all);
         }
-        found!(reader.expect(TokenKind::Mark(Mark::Comma)));
-        let next = found!(one_association(alloc, reader, levels));
-        all = found!(pushed(all, next));
+        reader.expect(TokenKind::Mark(Mark::Comma))?;
+        all.push(one_association(alloc, reader, levels)?)?;
     }
     Ok(all)
 }
@@ -80,7 +80,7 @@ fn associations(
 ) -> Result<Items<Association>, Stop>
     ensures { Reads (spec.associations most_operators levels reader.old) result reader.new }
 {
-    let first = found!(one_association(alloc, reader, levels));
+    let first = one_association(alloc, reader, levels)?;
     more_associations(alloc, reader, levels, first)
 }
 
@@ -94,8 +94,9 @@ pub fn map_aspect(
 ) -> Result<Items<Association>, Stop>
     ensures { Reads (spec.map_aspect most_operators levels allowed reader.old) result reader.new }
 {
-    found!(reader.expect(TokenKind::Word(Word::Map)));
-    found!(reader.expect_within(TokenKind::Mark(Mark::LeftParen), allowed, 0));
-    let all = found!(associations(alloc, reader, levels));
-    ended(reader, TokenKind::Mark(Mark::RightParen), all)
+    reader.expect(TokenKind::Word(Word::Map))?;
+    reader.expect_within(TokenKind::Mark(Mark::LeftParen), allowed, 0)?;
+    let all = associations(alloc, reader, levels)?;
+    reader.expect(TokenKind::Mark(Mark::RightParen))?;
+    Ok(all)
 }

@@ -7,29 +7,24 @@ use crate::tokens::begins_expression;
 use ams_token::{Mark, TokenKind};
 use ams_tree::Equation;
 use held_value::Held;
-use parse_expr::{ended, found, outermost_simple, pushed};
+use parse_expr::outermost_simple;
 use parse_steps::{Reader, Stop};
 use sqlite_items::Items;
 use std::alloc::Global;
-
-const SEMICOLON: TokenKind = TokenKind::Mark(Mark::Semicolon);
 
 /// A simple simultaneous statement.
 #[tactic(auto, using(parse_steps::proofs::Steps::terminal_seen), unfolding(crate::specs::Parsing::equation))]
 pub fn equation(alloc: Global, reader: &mut Reader<'_>, levels: u32) -> Result<Equation, Stop>
     ensures { Reads (spec.equation most_operators levels reader.old) result reader.new }
 {
-    let left = Held::new(found!(outermost_simple(alloc, reader, levels)));
-    found!(reader.expect(TokenKind::Mark(Mark::DoubleEqual)));
-    let right = found!(outermost_simple(alloc, reader, levels));
-    ended(
-        reader,
-        SEMICOLON,
-        Equation {
-            left: left.into_inner(),
-            right: right,
-        },
-    )
+    let left = Held::new(outermost_simple(alloc, reader, levels)?);
+    reader.expect(TokenKind::Mark(Mark::DoubleEqual))?;
+    let right = Held::new(outermost_simple(alloc, reader, levels)?);
+    reader.expect(TokenKind::Mark(Mark::Semicolon))?;
+    Ok(Equation {
+        left: left.into_inner(),
+        right: right.into_inner(),
+    })
 }
 
 /// Simple simultaneous statements, as many as there are.
@@ -46,8 +41,7 @@ pub fn equations(
         if !begins_expression(reader.peek()) {
             return Ok(all);
         }
-        let next = found!(equation(alloc, reader, levels));
-        all = found!(pushed(all, next));
+        all.push(equation(alloc, reader, levels)?)?;
     }
     Ok(all)
 }

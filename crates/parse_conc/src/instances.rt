@@ -7,13 +7,10 @@ use crate::associations::map_aspect;
 use ams_token::{Mark, Place, TokenKind, Word};
 use ams_tree::{Association, ConcurrentStatement, Instance, Name};
 use held_value::Held;
-use parse_expr::{ended, found};
 use parse_parts::name;
 use parse_steps::{Reader, Stop};
 use sqlite_items::Items;
 use std::alloc::Global;
-
-const SEMICOLON: TokenKind = TokenKind::Mark(Mark::Semicolon);
 
 /// The place of `entity`, the library and the entity, and the architecture.
 type Aspect = (Place, (Option<Name>, Name), Option<Name>);
@@ -25,8 +22,8 @@ fn entity_name(reader: &mut Reader<'_>, first: Name) -> Result<(Option<Name>, Na
     if !reader.at(TokenKind::Mark(Mark::Point)) {
         return Ok((None, first));
     }
-    found!(reader.expect(TokenKind::Mark(Mark::Point)));
-    let second = found!(name(reader));
+    reader.expect(TokenKind::Mark(Mark::Point))?;
+    let second = name(reader)?;
     Ok((Some(first), second))
 }
 
@@ -34,9 +31,10 @@ fn entity_name(reader: &mut Reader<'_>, first: Name) -> Result<(Option<Name>, Na
 fn architecture_name(reader: &mut Reader<'_>, levels: u32) -> Result<Name, Stop>
     ensures { Reads (spec.architecture_name most_operators levels reader.old) result reader.new }
 {
-    found!(reader.expect_within(TokenKind::Mark(Mark::LeftParen), levels > 0, 0));
-    let found = found!(name(reader));
-    ended(reader, TokenKind::Mark(Mark::RightParen), found)
+    reader.expect_within(TokenKind::Mark(Mark::LeftParen), levels > 0, 0)?;
+    let found = name(reader)?;
+    reader.expect(TokenKind::Mark(Mark::RightParen))?;
+    Ok(found)
 }
 
 #[tactic(auto, using(parse_steps::proofs::Steps::terminal_seen), unfolding(crate::specs::Parsing::maybe_architecture))]
@@ -46,17 +44,17 @@ fn maybe_architecture(reader: &mut Reader<'_>, levels: u32) -> Result<Option<Nam
     if !reader.at(TokenKind::Mark(Mark::LeftParen)) {
         return Ok(None);
     }
-    Ok(Some(found!(architecture_name(reader, levels))))
+    Ok(Some(architecture_name(reader, levels)?))
 }
 
 #[tactic(auto, using(parse_steps::proofs::Steps::terminal_seen), unfolding(crate::specs::Parsing::entity_aspect))]
 fn entity_aspect(reader: &mut Reader<'_>, levels: u32) -> Result<Aspect, Stop>
     ensures { Reads (spec.entity_aspect most_operators levels reader.old) result reader.new }
 {
-    let place = found!(reader.expect(TokenKind::Word(Word::Entity)));
-    let first = found!(name(reader));
-    let names = found!(entity_name(reader, first));
-    let architecture = found!(maybe_architecture(reader, levels));
+    let place = reader.expect(TokenKind::Word(Word::Entity))?;
+    let first = name(reader)?;
+    let names = entity_name(reader, first)?;
+    let architecture = maybe_architecture(reader, levels)?;
     Ok((place, names, architecture))
 }
 
@@ -72,8 +70,8 @@ fn maybe_map(
     if !reader.at(TokenKind::Word(word)) {
         return Ok(None);
     }
-    found!(reader.expect(TokenKind::Word(word)));
-    let all = found!(map_aspect(alloc, reader, levels.saturating_sub(1), levels > 0));
+    reader.expect(TokenKind::Word(word))?;
+    let all = map_aspect(alloc, reader, levels.saturating_sub(1), levels > 0)?;
     Ok(Some(all))
 }
 
@@ -86,9 +84,9 @@ fn maps(
 ) -> Result<ConcurrentStatement, Stop>
     ensures { Reads (spec.maps most_operators levels aspect reader.old) result reader.new }
 {
-    let generics = Held::new(found!(maybe_map(alloc, reader, levels, Word::Generic)));
-    let ports = Held::new(found!(maybe_map(alloc, reader, levels, Word::Port)));
-    found!(reader.expect(SEMICOLON));
+    let generics = Held::new(maybe_map(alloc, reader, levels, Word::Generic)?);
+    let ports = Held::new(maybe_map(alloc, reader, levels, Word::Port)?);
+    reader.expect(TokenKind::Mark(Mark::Semicolon))?;
     let (place, (library, entity), architecture) = aspect;
     Ok(ConcurrentStatement::Instance(Instance {
         place,
@@ -109,6 +107,6 @@ pub fn instance(
 ) -> Result<ConcurrentStatement, Stop>
     ensures { Reads (spec.instance most_operators levels reader.old) result reader.new }
 {
-    let aspect = found!(entity_aspect(reader, levels));
+    let aspect = entity_aspect(reader, levels)?;
     maps(alloc, reader, levels, aspect)
 }

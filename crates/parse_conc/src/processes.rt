@@ -7,22 +7,21 @@ use ams_token::{Mark, Place, TokenKind, Word};
 use ams_tree::{ConcurrentStatement, Expr, Name, Process, ProcessDeclaration, Seq};
 use held_value::Held;
 use parse_decl::{begins_process_declaration, process_declaration, word_said};
-use parse_expr::{ended, found, name_of, pushed};
+use parse_expr::name_of;
 use parse_parts::{name, name_list};
 use parse_seq::{any_statement, begins_statement};
 use parse_steps::{Reader, Stop};
 use sqlite_items::Items;
 use std::alloc::Global;
 
-const SEMICOLON: TokenKind = TokenKind::Mark(Mark::Semicolon);
-
 #[tactic(auto, using(parse_steps::proofs::Steps::terminal_seen), unfolding(crate::specs::Parsing::sensitivity))]
 fn sensitivity(alloc: Global, reader: &mut Reader<'_>, levels: u32) -> Result<Items<Expr>, Stop>
     ensures { Reads (spec.sensitivity most_operators levels reader.old) result reader.new }
 {
-    found!(reader.expect_within(TokenKind::Mark(Mark::LeftParen), levels > 0, 0));
-    let all = found!(name_list(alloc, reader, levels.saturating_sub(1)));
-    ended(reader, TokenKind::Mark(Mark::RightParen), all)
+    reader.expect_within(TokenKind::Mark(Mark::LeftParen), levels > 0, 0)?;
+    let all = name_list(alloc, reader, levels.saturating_sub(1))?;
+    reader.expect(TokenKind::Mark(Mark::RightParen))?;
+    Ok(all)
 }
 
 #[tactic(auto, using(parse_steps::proofs::Steps::terminal_seen), unfolding(crate::specs::Parsing::maybe_sensitivity))]
@@ -36,7 +35,7 @@ fn maybe_sensitivity(
     if !reader.at(TokenKind::Mark(Mark::LeftParen)) {
         return Ok(None);
     }
-    Ok(Some(found!(sensitivity(alloc, reader, levels))))
+    Ok(Some(sensitivity(alloc, reader, levels)?))
 }
 
 #[tactic(auto, using(parse_steps::proofs::Steps::terminal_seen), unfolding(crate::specs::Parsing::declarations))]
@@ -52,8 +51,7 @@ fn declarations(
         if !begins_process_declaration(reader.peek()) {
             return Ok(all);
         }
-        let next = found!(process_declaration(alloc, reader, levels));
-        all = found!(pushed(all, next));
+        all.push(process_declaration(alloc, reader, levels)?)?;
     }
     Ok(all)
 }
@@ -66,14 +64,11 @@ fn process_head(
 ) -> Result<(Option<Items<Expr>>, bool, Items<ProcessDeclaration>), Stop>
     ensures { Reads (spec.process_head most_operators levels reader.old) result reader.new }
 {
-    let names = Held::new(found!(maybe_sensitivity(alloc, reader, levels)));
-    let word_is = found!(word_said(reader, Word::Is));
-    let locals = found!(declarations(alloc, reader, levels));
-    ended(
-        reader,
-        TokenKind::Word(Word::Begin),
-        (names.into_inner(), word_is, locals),
-    )
+    let names = Held::new(maybe_sensitivity(alloc, reader, levels)?);
+    let word_is = word_said(reader, Word::Is)?;
+    let locals = declarations(alloc, reader, levels)?;
+    reader.expect(TokenKind::Word(Word::Begin))?;
+    Ok((names.into_inner(), word_is, locals))
 }
 
 #[tactic(auto, using(parse_steps::proofs::Steps::terminal_seen), unfolding(crate::specs::Parsing::statements))]
@@ -85,8 +80,7 @@ fn statements(alloc: Global, reader: &mut Reader<'_>, levels: u32) -> Result<Ite
         if !begins_statement(reader.peek()) {
             return Ok(all);
         }
-        let next = found!(any_statement(alloc, reader, levels));
-        all = found!(pushed(all, next));
+        all.push(any_statement(alloc, reader, levels)?)?;
     }
     Ok(all)
 }
@@ -98,7 +92,7 @@ fn maybe_name(reader: &mut Reader<'_>) -> Result<Option<Name>, Stop>
     if name_of(reader.peek()).is_none() {
         return Ok(None);
     }
-    Ok(Some(found!(name(reader))))
+    Ok(Some(name(reader)?))
 }
 
 #[tactic(auto, using(parse_steps::proofs::Steps::terminal_seen), unfolding(crate::specs::Parsing::process_body))]
@@ -109,11 +103,12 @@ fn process_body(
 ) -> Result<(Items<Seq>, Option<Name>), Stop>
     ensures { Reads (spec.process_body most_operators levels reader.old) result reader.new }
 {
-    let all = found!(statements(alloc, reader, levels));
-    found!(reader.expect(TokenKind::Word(Word::End)));
-    found!(reader.expect(TokenKind::Word(Word::Process)));
-    let end = found!(maybe_name(reader));
-    ended(reader, SEMICOLON, (all, end))
+    let all = statements(alloc, reader, levels)?;
+    reader.expect(TokenKind::Word(Word::End))?;
+    reader.expect(TokenKind::Word(Word::Process))?;
+    let end = maybe_name(reader)?;
+    reader.expect(TokenKind::Mark(Mark::Semicolon))?;
+    Ok((all, end))
 }
 
 /// A process, behind its first word.
@@ -126,9 +121,9 @@ pub fn process_parts(
 ) -> Result<ConcurrentStatement, Stop>
     ensures { Reads (spec.process_parts most_operators levels place reader.old) result reader.new }
 {
-    let (sensitivity, word_is, declarations) = found!(process_head(alloc, reader, levels));
+    let (sensitivity, word_is, declarations) = process_head(alloc, reader, levels)?;
     let sensitivity = Held::new(sensitivity);
-    let (body, end) = found!(process_body(alloc, reader, levels));
+    let (body, end) = process_body(alloc, reader, levels)?;
     Ok(ConcurrentStatement::Process(Process {
         place,
         sensitivity: sensitivity.into_inner(),

@@ -7,8 +7,8 @@ use crate::equations::equations;
 use ams_token::{Place, TokenKind, Word};
 use ams_tree::{ConcurrentStatement, Equation, SimultaneousAlternative, SimultaneousBranch};
 use held_value::Held;
-use parse_expr::{found, outermost, pushed};
-use parse_parts::{choices, closed};
+use parse_expr::outermost;
+use parse_parts::{choices, ending};
 use parse_steps::{Reader, Stop};
 use sqlite_items::Items;
 use std::alloc::Global;
@@ -21,9 +21,9 @@ fn simultaneous_branch(
 ) -> Result<SimultaneousBranch, Stop>
     ensures { Reads (spec.simultaneous_branch most_operators levels reader.old) result reader.new }
 {
-    let condition = Held::new(found!(outermost(alloc, reader, levels)));
-    found!(reader.expect(TokenKind::Word(Word::Use)));
-    let equations = found!(equations(alloc, reader, levels));
+    let condition = Held::new(outermost(alloc, reader, levels)?);
+    reader.expect(TokenKind::Word(Word::Use))?;
+    let equations = equations(alloc, reader, levels)?;
     Ok(SimultaneousBranch {
         condition: condition.into_inner(),
         equations,
@@ -39,14 +39,14 @@ fn more_branches(
 ) -> Result<Items<SimultaneousBranch>, Stop>
     ensures { Reads (spec.more_branches most_operators levels first reader.old) result reader.new }
 {
-    let mut all = found!(pushed(Items::new(alloc), first));
+    let mut all = Items::new(alloc);
+    all.push(first)?;
     for _turn in 0..reader.left() {
         if !reader.at(TokenKind::Word(Word::Elsif)) {
             return Ok(all);
         }
-        found!(reader.expect(TokenKind::Word(Word::Elsif)));
-        let next = found!(simultaneous_branch(alloc, reader, levels));
-        all = found!(pushed(all, next));
+        reader.expect(TokenKind::Word(Word::Elsif))?;
+        all.push(simultaneous_branch(alloc, reader, levels)?)?;
     }
     Ok(all)
 }
@@ -62,8 +62,8 @@ fn other_equations(
     if !reader.at(TokenKind::Word(Word::Else)) {
         return Ok(None);
     }
-    found!(reader.expect(TokenKind::Word(Word::Else)));
-    Ok(Some(found!(equations(alloc, reader, levels))))
+    reader.expect(TokenKind::Word(Word::Else))?;
+    Ok(Some(equations(alloc, reader, levels)?))
 }
 
 /// A simultaneous if, behind its first word.
@@ -76,14 +76,11 @@ pub fn simultaneous_if(
 ) -> Result<ConcurrentStatement, Stop>
     ensures { Reads (spec.simultaneous_if most_operators levels place reader.old) result reader.new }
 {
-    let first = found!(simultaneous_branch(alloc, reader, levels));
-    let all = found!(more_branches(alloc, reader, levels, first));
-    let other = found!(other_equations(alloc, reader, levels));
-    closed(
-        reader,
-        Word::Use,
-        ConcurrentStatement::If(place, all, other),
-    )
+    let first = simultaneous_branch(alloc, reader, levels)?;
+    let all = more_branches(alloc, reader, levels, first)?;
+    let other = Held::new(other_equations(alloc, reader, levels)?);
+    ending(reader, Word::Use)?;
+    Ok(ConcurrentStatement::If(place, all, other.into_inner()))
 }
 
 #[tactic(auto, using(parse_steps::proofs::Steps::terminal_seen), unfolding(crate::specs::Parsing::simultaneous_alternative))]
@@ -94,8 +91,8 @@ fn simultaneous_alternative(
 ) -> Result<SimultaneousAlternative, Stop>
     ensures { Reads (spec.simultaneous_alternative most_operators levels reader.old) result reader.new }
 {
-    let choices = found!(choices(alloc, reader, levels));
-    let equations = found!(equations(alloc, reader, levels));
+    let choices = choices(alloc, reader, levels)?;
+    let equations = equations(alloc, reader, levels)?;
     Ok(SimultaneousAlternative { choices, equations })
 }
 
@@ -108,13 +105,13 @@ fn more_alternatives(
 ) -> Result<Items<SimultaneousAlternative>, Stop>
     ensures { Reads (spec.more_alternatives most_operators levels first reader.old) result reader.new }
 {
-    let mut all = found!(pushed(Items::new(alloc), first));
+    let mut all = Items::new(alloc);
+    all.push(first)?;
     for _turn in 0..reader.left() {
         if !reader.at(TokenKind::Word(Word::When)) {
             return Ok(all);
         }
-        let next = found!(simultaneous_alternative(alloc, reader, levels));
-        all = found!(pushed(all, next));
+        all.push(simultaneous_alternative(alloc, reader, levels)?)?;
     }
     Ok(all)
 }
@@ -127,7 +124,7 @@ fn simultaneous_alternatives(
 ) -> Result<Items<SimultaneousAlternative>, Stop>
     ensures { Reads (spec.simultaneous_alternatives most_operators levels reader.old) result reader.new }
 {
-    let first = found!(simultaneous_alternative(alloc, reader, levels));
+    let first = simultaneous_alternative(alloc, reader, levels)?;
     more_alternatives(alloc, reader, levels, first)
 }
 
@@ -141,12 +138,9 @@ pub fn simultaneous_case(
 ) -> Result<ConcurrentStatement, Stop>
     ensures { Reads (spec.simultaneous_case most_operators levels place reader.old) result reader.new }
 {
-    let value = Held::new(found!(outermost(alloc, reader, levels)));
-    found!(reader.expect(TokenKind::Word(Word::Use)));
-    let all = found!(simultaneous_alternatives(alloc, reader, levels));
-    closed(
-        reader,
-        Word::Case,
-        ConcurrentStatement::Case(place, value.into_inner(), all),
-    )
+    let value = Held::new(outermost(alloc, reader, levels)?);
+    reader.expect(TokenKind::Word(Word::Use))?;
+    let all = simultaneous_alternatives(alloc, reader, levels)?;
+    ending(reader, Word::Case)?;
+    Ok(ConcurrentStatement::Case(place, value.into_inner(), all))
 }

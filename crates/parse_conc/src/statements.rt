@@ -12,7 +12,6 @@ use crate::simultaneous::{simultaneous_case, simultaneous_if};
 use crate::tokens::name_then;
 use ams_token::{Mark, TokenKind, Word};
 use ams_tree::{Concurrent, ConcurrentStatement};
-use parse_expr::found;
 use parse_parts::{assertion, name};
 use parse_steps::{Reader, Stop};
 use std::alloc::Global;
@@ -28,7 +27,7 @@ fn assignment_or_equation(
     if name_then(reader, Mark::LessEqual) {
         return concurrent_assignment(alloc, reader, levels);
     }
-    Ok(ConcurrentStatement::Equation(found!(equation(alloc, reader, levels))))
+    Ok(ConcurrentStatement::Equation(equation(alloc, reader, levels)?))
 }
 
 #[tactic(auto, using(parse_steps::proofs::Steps::terminal_seen), unfolding(crate::specs::Parsing::unlabelled))]
@@ -40,19 +39,19 @@ fn unlabelled(
     ensures { Reads (spec.unlabelled most_operators levels reader.old) result reader.new }
 {
     if reader.at(TokenKind::Word(Word::Process)) {
-        let place = found!(reader.expect_within(TokenKind::Word(Word::Process), levels > 0, 0));
+        let place = reader.expect_within(TokenKind::Word(Word::Process), levels > 0, 0)?;
         return process_parts(alloc, reader, levels.saturating_sub(1), place);
     }
     if reader.at(TokenKind::Word(Word::If)) {
-        let place = found!(reader.expect_within(TokenKind::Word(Word::If), levels > 0, 0));
+        let place = reader.expect_within(TokenKind::Word(Word::If), levels > 0, 0)?;
         return simultaneous_if(alloc, reader, levels.saturating_sub(1), place);
     }
     if reader.at(TokenKind::Word(Word::Case)) {
-        let place = found!(reader.expect_within(TokenKind::Word(Word::Case), levels > 0, 0));
+        let place = reader.expect_within(TokenKind::Word(Word::Case), levels > 0, 0)?;
         return simultaneous_case(alloc, reader, levels.saturating_sub(1), place);
     }
     if reader.at(TokenKind::Word(Word::Assert)) {
-        return Ok(ConcurrentStatement::Assert(found!(assertion(alloc, reader, levels))));
+        return Ok(ConcurrentStatement::Assert(assertion(alloc, reader, levels)?));
     }
     if reader.at(TokenKind::Word(Word::Break)) {
         return concurrent_break(alloc, reader, levels);
@@ -78,9 +77,9 @@ fn labelled_statement(
 fn labelled(alloc: Global, reader: &mut Reader<'_>, levels: u32) -> Result<Concurrent, Stop>
     ensures { Reads (spec.labelled most_operators levels reader.old) result reader.new }
 {
-    let label = found!(name(reader));
-    found!(reader.expect(TokenKind::Mark(Mark::Colon)));
-    let statement = found!(labelled_statement(alloc, reader, levels));
+    let label = name(reader)?;
+    reader.expect(TokenKind::Mark(Mark::Colon))?;
+    let statement = labelled_statement(alloc, reader, levels)?;
     Ok(Concurrent {
         label: Some(label),
         statement,
@@ -99,7 +98,7 @@ pub fn any_concurrent(
     if name_then(reader, Mark::Colon) {
         return labelled(alloc, reader, levels);
     }
-    let statement = found!(unlabelled(alloc, reader, levels));
+    let statement = unlabelled(alloc, reader, levels)?;
     Ok(Concurrent {
         label: None,
         statement,

@@ -7,7 +7,6 @@ ghost use Rattle.parse_decl.specs.Parsing as spec;
 use crate::parts::names_colon;
 use ams_token::{Mark, Place, TokenKind, Word};
 use ams_tree::{Declaration, Name};
-use parse_expr::{ended, found};
 use parse_parts::{more_names, name, name_after};
 use parse_steps::{Reader, Stop};
 use sqlite_items::Items;
@@ -22,7 +21,7 @@ fn to_name(reader: &mut Reader<'_>) -> Result<Option<Name>, Stop>
     if !reader.at(TokenKind::Word(Word::To)) {
         return Ok(None);
     }
-    let found = found!(name_after(reader, Word::To));
+    let found = name_after(reader, Word::To)?;
     Ok(Some(found))
 }
 
@@ -36,12 +35,9 @@ fn across_ends(
 ) -> Result<Declaration, Stop>
     ensures { Reads (spec.across_ends place across through from reader.old) result reader.new }
 {
-    let to = found!(to_name(reader));
-    ended(
-        reader,
-        SEMICOLON,
-        Declaration::Across(place, across, through, from, to),
-    )
+    let to = to_name(reader)?;
+    reader.expect(SEMICOLON)?;
+    Ok(Declaration::Across(place, across, through, from, to))
 }
 
 #[tactic(auto, unfolding(crate::specs::Parsing::across_through))]
@@ -54,8 +50,8 @@ fn across_through(
 ) -> Result<Declaration, Stop>
     ensures { Reads (spec.across_through place ids first reader.old) result reader.new }
 {
-    let through = found!(more_names(alloc, reader, first));
-    let from = found!(name_after(reader, Word::Through));
+    let through = more_names(alloc, reader, first)?;
+    let from = name_after(reader, Word::Through)?;
     across_ends(reader, place, ids, Some(through), from)
 }
 
@@ -68,7 +64,7 @@ pub fn across_branch(
 ) -> Result<Declaration, Stop>
     ensures { Reads (spec.across_branch place ids reader.old) result reader.new }
 {
-    let first = found!(name_after(reader, Word::Across));
+    let first = name_after(reader, Word::Across)?;
     if reader.at(TokenKind::Mark(Mark::Comma)) || reader.at(TokenKind::Word(Word::Through)) {
         return across_through(alloc, reader, place, ids, first);
     }
@@ -83,13 +79,10 @@ pub fn through_branch(
 ) -> Result<Declaration, Stop>
     ensures { Reads (spec.through_branch place ids reader.old) result reader.new }
 {
-    let from = found!(name_after(reader, Word::Through));
-    let to = found!(to_name(reader));
-    ended(
-        reader,
-        SEMICOLON,
-        Declaration::Through(place, ids, from, to),
-    )
+    let from = name_after(reader, Word::Through)?;
+    let to = to_name(reader)?;
+    reader.expect(SEMICOLON)?;
+    Ok(Declaration::Through(place, ids, from, to))
 }
 
 #[tactic(auto, unfolding(crate::specs::Parsing::rest_of_nature))]
@@ -101,23 +94,20 @@ fn rest_of_nature(
 ) -> Result<Declaration, Stop>
     ensures { Reads (spec.rest_of_nature place name across reader.old) result reader.new }
 {
-    let through = found!(name_after(reader, Word::Across));
-    let reference = found!(name_after(reader, Word::Through));
-    found!(reader.expect(TokenKind::Word(Word::Reference)));
-    ended(
-        reader,
-        SEMICOLON,
-        Declaration::Nature(place, name, across, through, reference),
-    )
+    let through = name_after(reader, Word::Across)?;
+    let reference = name_after(reader, Word::Through)?;
+    reader.expect(TokenKind::Word(Word::Reference))?;
+    reader.expect(SEMICOLON)?;
+    Ok(Declaration::Nature(place, name, across, through, reference))
 }
 
 #[tactic(auto, unfolding(crate::specs::Parsing::nature_declaration))]
 pub fn nature_declaration(reader: &mut Reader<'_>) -> Result<Declaration, Stop>
     ensures { Reads (spec.nature_declaration reader.old) result reader.new }
 {
-    let place = found!(reader.expect(TokenKind::Word(Word::Nature)));
-    let found = found!(name(reader));
-    let across = found!(name_after(reader, Word::Is));
+    let place = reader.expect(TokenKind::Word(Word::Nature))?;
+    let found = name(reader)?;
+    let across = name_after(reader, Word::Is)?;
     rest_of_nature(reader, place, found, across)
 }
 
@@ -125,8 +115,9 @@ pub fn nature_declaration(reader: &mut Reader<'_>) -> Result<Declaration, Stop>
 pub fn terminal_declaration(alloc: Global, reader: &mut Reader<'_>) -> Result<Declaration, Stop>
     ensures { Reads (spec.terminal_declaration reader.old) result reader.new }
 {
-    let place = found!(reader.expect(TokenKind::Word(Word::Terminal)));
-    let ids = found!(names_colon(alloc, reader));
-    let nature = found!(name(reader));
-    ended(reader, SEMICOLON, Declaration::Terminal(place, ids, nature))
+    let place = reader.expect(TokenKind::Word(Word::Terminal))?;
+    let ids = names_colon(alloc, reader)?;
+    let nature = name(reader)?;
+    reader.expect(SEMICOLON)?;
+    Ok(Declaration::Terminal(place, ids, nature))
 }

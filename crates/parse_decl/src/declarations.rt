@@ -10,7 +10,7 @@ use crate::parts::{default, indication, names_colon};
 use ams_token::{Mark, Place, TokenKind, Word};
 use ams_tree::{Declaration, Expr, Name, ProcessDeclaration, SubtypeIndication};
 use held_value::Held;
-use parse_expr::{ended, found, outermost};
+use parse_expr::outermost;
 use parse_parts::{name, names};
 use parse_steps::{Reader, Stop};
 use sqlite_items::Items;
@@ -28,15 +28,12 @@ fn signal_declaration(
 ) -> Result<Declaration, Stop>
     ensures { Reads (spec.signal_declaration most_operators levels reader.old) result reader.new }
 {
-    let place = found!(reader.expect(TokenKind::Word(Word::Signal)));
-    let ids = found!(names_colon(alloc, reader));
-    let indication = Held::new(found!(indication(alloc, reader, levels)));
-    let value = found!(default(alloc, reader, levels));
-    ended(
-        reader,
-        SEMICOLON,
-        Declaration::Signal(place, ids, indication.into_inner(), value),
-    )
+    let place = reader.expect(TokenKind::Word(Word::Signal))?;
+    let ids = names_colon(alloc, reader)?;
+    let indication = Held::new(indication(alloc, reader, levels)?);
+    let value = Held::new(default(alloc, reader, levels)?);
+    reader.expect(SEMICOLON)?;
+    Ok(Declaration::Signal(place, ids, indication.into_inner(), value.into_inner()))
 }
 
 #[tactic(auto, unfolding(crate::specs::Parsing::constant_end))]
@@ -48,7 +45,10 @@ fn constant_end(
 ) -> Result<(Items<Name>, SubtypeIndication, Expr), Stop>
     ensures { Reads (spec.constant_end ids indication value reader.old) result reader.new }
 {
-    ended(reader, SEMICOLON, (ids, indication, value))
+    let indication = Held::new(indication);
+    let value = Held::new(value);
+    reader.expect(SEMICOLON)?;
+    Ok((ids, indication.into_inner(), value.into_inner()))
 }
 
 #[tactic(auto, unfolding(crate::specs::Parsing::constant_parts))]
@@ -59,10 +59,10 @@ fn constant_parts(
 ) -> Result<(Items<Name>, SubtypeIndication, Expr), Stop>
     ensures { Reads (spec.constant_parts most_operators levels reader.old) result reader.new }
 {
-    let ids = found!(names_colon(alloc, reader));
-    let indication = Held::new(found!(indication(alloc, reader, levels)));
-    found!(reader.expect(TokenKind::Mark(Mark::Assign)));
-    let value = found!(outermost(alloc, reader, levels));
+    let ids = names_colon(alloc, reader)?;
+    let indication = Held::new(indication(alloc, reader, levels)?);
+    reader.expect(TokenKind::Mark(Mark::Assign))?;
+    let value = outermost(alloc, reader, levels)?;
     constant_end(reader, ids, indication.into_inner(), value)
 }
 
@@ -74,8 +74,8 @@ fn constant_declaration(
 ) -> Result<Declaration, Stop>
     ensures { Reads (spec.constant_declaration most_operators levels reader.old) result reader.new }
 {
-    let place = found!(reader.expect(TokenKind::Word(Word::Constant)));
-    let (ids, indication, value) = found!(constant_parts(alloc, reader, levels));
+    let place = reader.expect(TokenKind::Word(Word::Constant))?;
+    let (ids, indication, value) = constant_parts(alloc, reader, levels)?;
     Ok(Declaration::Constant(place, ids, indication, value))
 }
 
@@ -89,14 +89,11 @@ fn free_quantity(
 ) -> Result<Declaration, Stop>
     ensures { Reads (spec.free_quantity most_operators levels place ids reader.old) result reader.new }
 {
-    found!(reader.expect(COLON));
-    let indication = Held::new(found!(indication(alloc, reader, levels)));
-    let value = found!(default(alloc, reader, levels));
-    ended(
-        reader,
-        SEMICOLON,
-        Declaration::Quantity(place, ids, indication.into_inner(), value),
-    )
+    reader.expect(COLON)?;
+    let indication = Held::new(indication(alloc, reader, levels)?);
+    let value = Held::new(default(alloc, reader, levels)?);
+    reader.expect(SEMICOLON)?;
+    Ok(Declaration::Quantity(place, ids, indication.into_inner(), value.into_inner()))
 }
 
 #[tactic(auto, unfolding(crate::specs::Parsing::quantity_declaration))]
@@ -107,8 +104,8 @@ fn quantity_declaration(
 ) -> Result<Declaration, Stop>
     ensures { Reads (spec.quantity_declaration most_operators levels reader.old) result reader.new }
 {
-    let place = found!(reader.expect(TokenKind::Word(Word::Quantity)));
-    let ids = found!(names(alloc, reader));
+    let place = reader.expect(TokenKind::Word(Word::Quantity))?;
+    let ids = names(alloc, reader)?;
     if reader.at(COLON) {
         return free_quantity(alloc, reader, levels, place, ids);
     }
@@ -122,9 +119,10 @@ fn quantity_declaration(
 fn enumerated(alloc: Global, reader: &mut Reader<'_>, levels: u32) -> Result<Items<Name>, Stop>
     ensures { Reads (spec.enumerated most_operators levels reader.old) result reader.new }
 {
-    found!(reader.expect_within(TokenKind::Mark(Mark::LeftParen), levels > 0, 0));
-    let literals = found!(names(alloc, reader));
-    ended(reader, TokenKind::Mark(Mark::RightParen), literals)
+    reader.expect_within(TokenKind::Mark(Mark::LeftParen), levels > 0, 0)?;
+    let literals = names(alloc, reader)?;
+    reader.expect(TokenKind::Mark(Mark::RightParen))?;
+    Ok(literals)
 }
 
 #[tactic(auto, unfolding(crate::specs::Parsing::enumeration_declaration))]
@@ -135,15 +133,12 @@ fn enumeration_declaration(
 ) -> Result<Declaration, Stop>
     ensures { Reads (spec.enumeration_declaration most_operators levels reader.old) result reader.new }
 {
-    let place = found!(reader.expect(TokenKind::Word(Word::Type)));
-    let found = found!(name(reader));
-    found!(reader.expect(TokenKind::Word(Word::Is)));
-    let literals = found!(enumerated(alloc, reader, levels));
-    ended(
-        reader,
-        SEMICOLON,
-        Declaration::Enumeration(place, found, literals),
-    )
+    let place = reader.expect(TokenKind::Word(Word::Type))?;
+    let found = name(reader)?;
+    reader.expect(TokenKind::Word(Word::Is))?;
+    let literals = enumerated(alloc, reader, levels)?;
+    reader.expect(SEMICOLON)?;
+    Ok(Declaration::Enumeration(place, found, literals))
 }
 
 #[tactic(auto, unfolding(crate::specs::Parsing::subtype_declaration))]
@@ -154,15 +149,12 @@ fn subtype_declaration(
 ) -> Result<Declaration, Stop>
     ensures { Reads (spec.subtype_declaration most_operators levels reader.old) result reader.new }
 {
-    let place = found!(reader.expect(TokenKind::Word(Word::Subtype)));
-    let found = found!(name(reader));
-    found!(reader.expect(TokenKind::Word(Word::Is)));
-    let indication = found!(indication(alloc, reader, levels));
-    ended(
-        reader,
-        SEMICOLON,
-        Declaration::Subtype(place, found, indication),
-    )
+    let place = reader.expect(TokenKind::Word(Word::Subtype))?;
+    let found = name(reader)?;
+    reader.expect(TokenKind::Word(Word::Is))?;
+    let indication = Held::new(indication(alloc, reader, levels)?);
+    reader.expect(SEMICOLON)?;
+    Ok(Declaration::Subtype(place, found, indication.into_inner()))
 }
 
 /// A declaration, in which `levels` parentheses may be open.
@@ -203,15 +195,12 @@ fn variable_declaration(
 ) -> Result<ProcessDeclaration, Stop>
     ensures { Reads (spec.variable_declaration most_operators levels reader.old) result reader.new }
 {
-    let place = found!(reader.expect(TokenKind::Word(Word::Variable)));
-    let ids = found!(names_colon(alloc, reader));
-    let indication = Held::new(found!(indication(alloc, reader, levels)));
-    let value = found!(default(alloc, reader, levels));
-    ended(
-        reader,
-        SEMICOLON,
-        ProcessDeclaration::Variable(place, ids, indication.into_inner(), value),
-    )
+    let place = reader.expect(TokenKind::Word(Word::Variable))?;
+    let ids = names_colon(alloc, reader)?;
+    let indication = Held::new(indication(alloc, reader, levels)?);
+    let value = Held::new(default(alloc, reader, levels)?);
+    reader.expect(SEMICOLON)?;
+    Ok(ProcessDeclaration::Variable(place, ids, indication.into_inner(), value.into_inner()))
 }
 
 #[tactic(auto, unfolding(crate::specs::Parsing::local_constant))]
@@ -222,8 +211,8 @@ fn local_constant(
 ) -> Result<ProcessDeclaration, Stop>
     ensures { Reads (spec.local_constant most_operators levels reader.old) result reader.new }
 {
-    let place = found!(reader.expect(TokenKind::Word(Word::Constant)));
-    let (ids, indication, value) = found!(constant_parts(alloc, reader, levels));
+    let place = reader.expect(TokenKind::Word(Word::Constant))?;
+    let (ids, indication, value) = constant_parts(alloc, reader, levels)?;
     Ok(ProcessDeclaration::Constant(place, ids, indication, value))
 }
 

@@ -9,7 +9,6 @@ use crate::parts::{default, indication, mode, names_colon, word_place, word_said
 use ams_token::{Place, TokenKind, Word};
 use ams_tree::{Generic, Port};
 use held_value::Held;
-use parse_expr::found;
 use parse_parts::name;
 use parse_steps::{Reader, Stop};
 use std::alloc::Global;
@@ -19,11 +18,11 @@ use std::alloc::Global;
 pub fn generic(alloc: Global, reader: &mut Reader<'_>, levels: u32) -> Result<Generic, Stop>
     ensures { Reads (spec.generic most_operators levels reader.old) result reader.new }
 {
-    let constant = found!(word_place(reader, Word::Constant));
-    let names = found!(names_colon(alloc, reader));
-    let mode_in = found!(word_said(reader, Word::In));
-    let indication = Held::new(found!(indication(alloc, reader, levels)));
-    let default = found!(default(alloc, reader, levels));
+    let constant = word_place(reader, Word::Constant)?;
+    let names = names_colon(alloc, reader)?;
+    let mode_in = word_said(reader, Word::In)?;
+    let indication = Held::new(indication(alloc, reader, levels)?);
+    let default = default(alloc, reader, levels)?;
     Ok(Generic {
         constant,
         names,
@@ -37,9 +36,9 @@ pub fn generic(alloc: Global, reader: &mut Reader<'_>, levels: u32) -> Result<Ge
 fn terminal_port(alloc: Global, reader: &mut Reader<'_>) -> Result<Port, Stop>
     ensures { Reads (spec.terminal_port reader.old) result reader.new }
 {
-    let place = found!(reader.expect(TokenKind::Word(Word::Terminal)));
-    let ids = found!(names_colon(alloc, reader));
-    let nature = found!(name(reader));
+    let place = reader.expect(TokenKind::Word(Word::Terminal))?;
+    let ids = names_colon(alloc, reader)?;
+    let nature = name(reader)?;
     Ok(Port::Terminal(place, ids, nature))
 }
 
@@ -47,10 +46,10 @@ fn terminal_port(alloc: Global, reader: &mut Reader<'_>) -> Result<Port, Stop>
 fn quantity_port(alloc: Global, reader: &mut Reader<'_>, levels: u32) -> Result<Port, Stop>
     ensures { Reads (spec.quantity_port most_operators levels reader.old) result reader.new }
 {
-    let place = found!(reader.expect(TokenKind::Word(Word::Quantity)));
-    let ids = found!(names_colon(alloc, reader));
-    let mode = found!(mode(reader));
-    let indication = found!(indication(alloc, reader, levels));
+    let place = reader.expect(TokenKind::Word(Word::Quantity))?;
+    let ids = names_colon(alloc, reader)?;
+    let mode = mode(reader)?;
+    let indication = indication(alloc, reader, levels)?;
     Ok(Port::Quantity(place, ids, mode, indication))
 }
 
@@ -63,10 +62,10 @@ fn signal_port(
 ) -> Result<Port, Stop>
     ensures { Reads (spec.signal_port most_operators levels place reader.old) result reader.new }
 {
-    let ids = found!(names_colon(alloc, reader));
-    let mode = found!(mode(reader));
-    let indication = Held::new(found!(indication(alloc, reader, levels)));
-    let value = found!(default(alloc, reader, levels));
+    let ids = names_colon(alloc, reader)?;
+    let mode = mode(reader)?;
+    let indication = Held::new(indication(alloc, reader, levels)?);
+    let value = default(alloc, reader, levels)?;
     Ok(Port::Signal(place, ids, mode, indication.into_inner(), value))
 }
 
@@ -81,6 +80,6 @@ pub fn port_declaration(alloc: Global, reader: &mut Reader<'_>, levels: u32) -> 
     if reader.at(TokenKind::Word(Word::Quantity)) {
         return quantity_port(alloc, reader, levels);
     }
-    let place = found!(word_place(reader, Word::Signal));
+    let place = word_place(reader, Word::Signal)?;
     signal_port(alloc, reader, levels, place)
 }

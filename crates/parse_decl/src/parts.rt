@@ -9,7 +9,7 @@ use crate::tokens::mode_of;
 use ams_token::{Mark, Place, TokenKind, Word};
 use ams_tree::{Bounds, Expr, Mode, Name, Range, SubtypeIndication};
 use held_value::Held;
-use parse_expr::{ended, found, outermost, outermost_simple};
+use parse_expr::{outermost, outermost_simple};
 use parse_parts::{name, names, range};
 use parse_steps::{Reader, Stop};
 use sqlite_items::Items;
@@ -24,8 +24,9 @@ const OPEN: TokenKind = TokenKind::Mark(Mark::LeftParen);
 pub fn names_colon(alloc: Global, reader: &mut Reader<'_>) -> Result<Items<Name>, Stop>
     ensures { Reads (spec.names_colon reader.old) result reader.new }
 {
-    let all = found!(names(alloc, reader));
-    ended(reader, TokenKind::Mark(Mark::Colon), all)
+    let all = names(alloc, reader)?;
+    reader.expect(TokenKind::Mark(Mark::Colon))?;
+    Ok(all)
 }
 
 /// The place of a word that may be left out.
@@ -36,7 +37,7 @@ pub fn word_place(reader: &mut Reader<'_>, word: Word) -> Result<Option<Place>, 
     if !reader.at(TokenKind::Word(word)) {
         return Ok(None);
     }
-    let place = found!(reader.expect(TokenKind::Word(word)));
+    let place = reader.expect(TokenKind::Word(word))?;
     Ok(Some(place))
 }
 
@@ -48,7 +49,8 @@ pub fn word_said(reader: &mut Reader<'_>, word: Word) -> Result<bool, Stop>
     if !reader.at(TokenKind::Word(word)) {
         return Ok(false);
     }
-    ended(reader, TokenKind::Word(word), true)
+    reader.expect(TokenKind::Word(word))?;
+    Ok(true)
 }
 
 #[tactic(auto, using(parse_steps::proofs::Steps::terminal_seen), unfolding(crate::specs::Parsing::mode))]
@@ -58,7 +60,7 @@ pub fn mode(reader: &mut Reader<'_>) -> Result<Option<Mode>, Stop>
     let Some(mode) = mode_of(reader.peek()) else {
         return Ok(None);
     };
-    found!(reader.take(true, 0));
+    reader.take(true, 0)?;
     Ok(Some(mode))
 }
 
@@ -66,10 +68,10 @@ pub fn mode(reader: &mut Reader<'_>) -> Result<Option<Mode>, Stop>
 fn bounds(alloc: Global, reader: &mut Reader<'_>, levels: u32) -> Result<Bounds, Stop>
     ensures { Reads (spec.bounds most_operators levels reader.old) result reader.new }
 {
-    found!(reader.expect(TokenKind::Word(Word::Range)));
-    let low = Held::new(found!(outermost_simple(alloc, reader, levels)));
-    found!(reader.expect(TokenKind::Word(Word::To)));
-    let high = found!(outermost_simple(alloc, reader, levels));
+    reader.expect(TokenKind::Word(Word::Range))?;
+    let low = Held::new(outermost_simple(alloc, reader, levels)?);
+    reader.expect(TokenKind::Word(Word::To))?;
+    let high = outermost_simple(alloc, reader, levels)?;
     Ok(Bounds {
         low: low.into_inner(),
         high,
@@ -84,8 +86,8 @@ pub fn default(alloc: Global, reader: &mut Reader<'_>, levels: u32) -> Result<Op
     if !reader.at(ASSIGN) {
         return Ok(None);
     }
-    found!(reader.expect(ASSIGN));
-    let value = found!(outermost(alloc, reader, levels));
+    reader.expect(ASSIGN)?;
+    let value = outermost(alloc, reader, levels)?;
     Ok(Some(value))
 }
 
@@ -93,9 +95,10 @@ pub fn default(alloc: Global, reader: &mut Reader<'_>, levels: u32) -> Result<Op
 fn index(alloc: Global, reader: &mut Reader<'_>, levels: u32) -> Result<Range, Stop>
     ensures { Reads (spec.index most_operators levels reader.old) result reader.new }
 {
-    found!(reader.expect_within(OPEN, levels > 0, 0));
-    let found = found!(range(alloc, reader, levels.saturating_sub(1)));
-    ended(reader, TokenKind::Mark(Mark::RightParen), found)
+    reader.expect_within(OPEN, levels > 0, 0)?;
+    let found = Held::new(range(alloc, reader, levels.saturating_sub(1))?);
+    reader.expect(TokenKind::Mark(Mark::RightParen))?;
+    Ok(found.into_inner())
 }
 
 #[tactic(auto, unfolding(crate::specs::Parsing::some_index))]
@@ -105,7 +108,7 @@ fn some_index(alloc: Global, reader: &mut Reader<'_>, levels: u32) -> Result<Opt
     if !reader.at(OPEN) {
         return Ok(None);
     }
-    let found = found!(index(alloc, reader, levels));
+    let found = index(alloc, reader, levels)?;
     Ok(Some(found))
 }
 
@@ -116,7 +119,7 @@ fn some_bounds(alloc: Global, reader: &mut Reader<'_>, levels: u32) -> Result<Op
     if !reader.at(TokenKind::Word(Word::Range)) {
         return Ok(None);
     }
-    let found = found!(bounds(alloc, reader, levels));
+    let found = bounds(alloc, reader, levels)?;
     Ok(Some(found))
 }
 
@@ -129,9 +132,9 @@ pub fn indication(
 ) -> Result<SubtypeIndication, Stop>
     ensures { Reads (spec.indication most_operators levels reader.old) result reader.new }
 {
-    let mark = found!(name(reader));
-    let index = Held::new(found!(some_index(alloc, reader, levels)));
-    let bounds = found!(some_bounds(alloc, reader, levels));
+    let mark = name(reader)?;
+    let index = Held::new(some_index(alloc, reader, levels)?);
+    let bounds = some_bounds(alloc, reader, levels)?;
     Ok(SubtypeIndication {
         mark,
         index: index.into_inner(),

@@ -3,8 +3,8 @@ ghost use Rattle.parse_steps.specs.Reading.{Reads};
 ghost use Rattle.parse_steps.specs.Reply.{most_operators};
 ghost use Rattle.parse_expr.specs.Parsing as spec;
 
-use crate::found;
-use crate::rules::{Rules, name, nested};
+use crate::rules::{Rules, nested};
+use crate::tokens::name_of;
 use ams_tree::Expr;
 use parse_steps::{MOST_OPERATORS, Reader, Stop};
 use std::alloc::Global;
@@ -15,13 +15,13 @@ pub fn outermost(alloc: Global, reader: &mut Reader<'_>, levels: u32) -> Result<
     ensures { Reads (spec.expression most_operators levels reader.old) result reader.new }
 {
     let mut inner = reader.fresh(MOST_OPERATORS);
-    let rules = Rules {
+    let found = Rules {
         alloc,
         levels,
         listed: false,
         nested,
-    };
-    let found = found!(rules.logical(&mut inner));
+    }
+    .logical(&mut inner)?;
     reader.resume(&inner);
     Ok(found)
 }
@@ -32,13 +32,13 @@ pub fn outermost_simple(alloc: Global, reader: &mut Reader<'_>, levels: u32) -> 
     ensures { Reads (spec.simple_expression most_operators levels reader.old) result reader.new }
 {
     let mut inner = reader.fresh(MOST_OPERATORS);
-    let rules = Rules {
+    let found = Rules {
         alloc,
         levels,
         listed: false,
         nested,
-    };
-    let found = found!(rules.simple(&mut inner));
+    }
+    .simple(&mut inner)?;
     reader.resume(&inner);
     Ok(found)
 }
@@ -48,7 +48,10 @@ pub fn outermost_simple(alloc: Global, reader: &mut Reader<'_>, levels: u32) -> 
 pub fn listed_name(alloc: Global, reader: &mut Reader<'_>, levels: u32) -> Result<Expr, Stop>
     ensures { Reads (spec.listed_name most_operators levels reader.old) result reader.new }
 {
-    let name = found!(name(reader));
+    let Some(name) = name_of(reader.peek()) else {
+        return Err(Stop::Syntax(reader.left()));
+    };
+    reader.take(true, 0)?;
     Rules {
         alloc,
         levels,

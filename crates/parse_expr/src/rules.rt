@@ -1,18 +1,14 @@
 //! The rules of expressions, which take the reading of the expression in parentheses as a parameter, so that each is
 //! proved by itself.
 
-ghost use Rattle.std.specs.Prelude.{◌≡◌, IfOk, IfErr};
+ghost use Rattle.std.specs.Prelude.{◌≡◌, IfOk};
 ghost use Rattle.ams_tree.specs.Terminals as terminals;
 ghost use Rattle.ams_tree.specs.Expressions.{allows};
-ghost use Rattle.parse_steps.specs.declared.reader.Stop.TheVariants.{Memory};
-ghost use Rattle.parse_steps.specs.Reading as reading;
 ghost use Rattle.parse_steps.specs.Reading.{Reads};
 ghost use Rattle.parse_expr.specs.Parsing as spec;
 ghost use Rattle.parse_expr.specs.Parsing.{nested, inside};
 ghost use Rattle.parse_expr.specs.Nests.{Nests};
 
-use crate::found;
-use crate::found::{ended, pushed};
 use crate::tokens::{
     adding, literal_of, multiplying, name_of, number_of, prefix, relating, shifting, sign,
 };
@@ -21,35 +17,20 @@ use ams_tree::{Attribute, BinaryOperator, Expr, Name, UnaryOperator};
 use held_value::Held;
 use parse_steps::{MOST_OPERATORS, Reader, Stop};
 use sqlite_items::{Boxed, Items};
-use std::alloc::Global;
+use std::alloc::{AllocError, Global};
 
-const OPEN: TokenKind = TokenKind::Mark(Mark::LeftParen);
-
-const CLOSE: TokenKind = TokenKind::Mark(Mark::RightParen);
-
-const COMMA: TokenKind = TokenKind::Mark(Mark::Comma);
-
-fn boxed(alloc: Global, x: Expr) -> Result<Boxed<Expr>, Stop>
-    ensures tree { IfOk result (λ b. b ≡ x) }
-    ensures memory { IfErr result (λ e. e ≡ Memory) }
+fn unary(alloc: Global, op: (UnaryOperator, Place), x: Expr) -> Result<Expr, AllocError>
+    ensures { IfOk result (λ e. e ≡ Expr.Unary op.0 op.1 x) }
 {
-    Ok(Boxed::new(alloc, x)?)
+    Ok(Expr::Unary(op.0, op.1, Boxed::new(alloc, x)?))
 }
 
-fn unary(alloc: Global, op: (UnaryOperator, Place), x: Expr) -> Result<Expr, Stop>
-    ensures tree { IfOk result (λ e. e ≡ Expr.Unary op.0 op.1 x) }
-    ensures memory { IfErr result (λ e. e ≡ Memory) }
-{
-    Ok(Expr::Unary(op.0, op.1, found!(boxed(alloc, x))))
-}
-
-fn binary(alloc: Global, op: BinaryOperator, x: Expr, y: Expr) -> Result<Expr, Stop>
-    ensures tree { IfOk result (λ e. e ≡ Expr.Binary op x y) }
-    ensures memory { IfErr result (λ e. e ≡ Memory) }
+fn binary(alloc: Global, op: BinaryOperator, x: Expr, y: Expr) -> Result<Expr, AllocError>
+    ensures { IfOk result (λ e. e ≡ Expr.Binary op x y) }
 {
     let y = Held::new(y);
-    let x = found!(boxed(alloc, x));
-    Ok(Expr::Binary(op, x, found!(boxed(alloc, y.into_inner()))))
+    let x = Boxed::new(alloc, x)?;
+    Ok(Expr::Binary(op, x, Boxed::new(alloc, y.into_inner())?))
 }
 
 #[tactic(auto, using(parse_steps::proofs::Steps::terminal_seen), unfolding(crate::specs::Parsing::unit))]
@@ -59,45 +40,11 @@ fn unit(reader: &mut Reader<'_>) -> Result<Option<Name>, Stop>
     let Some(name) = name_of(reader.peek()) else {
         return Ok(None);
     };
-    found!(reader.take(true, 0));
+    reader.take(true, 0)?;
     Ok(Some(name))
 }
 
-#[tactic(auto, using(parse_steps::proofs::Steps::terminal_seen))]
-fn number(reader: &mut Reader<'_>) -> Result<Expr, Stop>
-    ensures { Reads (reading.and_then (reading.one terminals.number_of reader.old) (λ n s. reading.and_then (spec.unit s) (λ u. reading.pure (Expr.Number n u)))) result reader.new }
-{
-    let Some(number) = number_of(reader.peek()) else {
-        return Err(Stop::Syntax(reader.left()));
-    };
-    found!(reader.take(true, 0));
-    Ok(Expr::Number(number, found!(unit(reader))))
-}
-
-#[tactic(auto, using(parse_steps::proofs::Steps::terminal_seen))]
-fn literal(reader: &mut Reader<'_>) -> Result<Expr, Stop>
-    ensures { Reads (reading.and_then (reading.one terminals.literal_of reader.old) (λ x. reading.pure (Expr.Literal x))) result reader.new }
-{
-    let Some(literal) = literal_of(reader.peek()) else {
-        return Err(Stop::Syntax(reader.left()));
-    };
-    found!(reader.take(true, 0));
-    Ok(Expr::Literal(literal))
-}
-
-/// An identifier.
-#[tactic(auto, using(parse_steps::proofs::Steps::terminal_seen))]
-pub fn name(reader: &mut Reader<'_>) -> Result<Name, Stop>
-    ensures { Reads (reading.one terminals.name_of reader.old) result reader.new }
-{
-    let Some(name) = name_of(reader.peek()) else {
-        return Err(Stop::Syntax(reader.left()));
-    };
-    found!(reader.take(true, 0));
-    Ok(name)
-}
-
-#[derive(Drop)]
+#[derive(Clone, Copy)]
 pub struct Rules<F> {
     pub alloc: Global,
     /// How many parentheses may still open.
@@ -117,7 +64,7 @@ impl<F: Fn(Global, &mut Reader<'_>, u32) -> Result<Expr, Stop>> Rules<F> {
             return (self.nested)(self.alloc, reader, self.levels);
         }
         let mut inner = reader.fresh(MOST_OPERATORS);
-        let found = found!((self.nested)(self.alloc, &mut inner, self.levels));
+        let found = (self.nested)(self.alloc, &mut inner, self.levels)?;
         reader.resume(&inner);
         Ok(found)
     }
@@ -127,9 +74,10 @@ impl<F: Fn(Global, &mut Reader<'_>, u32) -> Result<Expr, Stop>> Rules<F> {
         requires { Nests self.now.levels (F.pre self.now.nested) (F.post self.now.nested) }
         ensures { Reads (spec.grouped (allows self.now.levels) (inside self.now.listed self.now.levels) reader.old) result reader.new }
     {
-        let place = found!(reader.expect_within(OPEN, self.levels > 0, 0));
-        let inner = found!(self.nested(reader));
-        ended(reader, CLOSE, (place, inner))
+        let place = reader.expect_within(TokenKind::Mark(Mark::LeftParen), self.levels > 0, 0)?;
+        let inner = Held::new(self.nested(reader)?);
+        reader.expect(TokenKind::Mark(Mark::RightParen))?;
+        Ok((place, inner.into_inner()))
     }
 
     #[tactic(auto, using(parse_steps::proofs::Steps::terminal_seen), unfolding(crate::specs::Parsing::ramp_fall))]
@@ -137,12 +85,12 @@ impl<F: Fn(Global, &mut Reader<'_>, u32) -> Result<Expr, Stop>> Rules<F> {
         requires { Nests self.now.levels (F.pre self.now.nested) (F.post self.now.nested) }
         ensures { Reads (spec.ramp_fall (allows self.now.levels) (inside self.now.listed self.now.levels) reader.old) result reader.new }
     {
-        if !reader.at(COMMA) {
+        if !reader.at(TokenKind::Mark(Mark::Comma)) {
             return Ok(None);
         }
-        found!(reader.expect(COMMA));
-        let time = found!(self.nested(reader));
-        Ok(Some(found!(boxed(self.alloc, time))))
+        reader.expect(TokenKind::Mark(Mark::Comma))?;
+        let time = self.nested(reader)?;
+        Ok(Some(Boxed::new(self.alloc, time)?))
     }
 
     #[tactic(auto, using(parse_steps::proofs::Steps::terminal_seen), unfolding(crate::specs::Parsing::ramp_times))]
@@ -150,11 +98,11 @@ impl<F: Fn(Global, &mut Reader<'_>, u32) -> Result<Expr, Stop>> Rules<F> {
         requires { Nests self.now.levels (F.pre self.now.nested) (F.post self.now.nested) }
         ensures { Reads (spec.ramp_times (allows self.now.levels) (inside self.now.listed self.now.levels) reader.old) result reader.new }
     {
-        found!(reader.expect_within(OPEN, self.levels > 0, 0));
-        let rise = found!(self.nested(reader));
-        let rise = found!(boxed(self.alloc, rise));
-        let fall = found!(self.ramp_fall(reader));
-        ended(reader, CLOSE, Attribute::Ramp(Some(rise), fall))
+        reader.expect_within(TokenKind::Mark(Mark::LeftParen), self.levels > 0, 0)?;
+        let rise = Boxed::new(self.alloc, self.nested(reader)?)?;
+        let fall = Held::new(self.ramp_fall(reader)?);
+        reader.expect(TokenKind::Mark(Mark::RightParen))?;
+        Ok(Attribute::Ramp(Some(rise), fall.into_inner()))
     }
 
     #[tactic(auto, using(parse_steps::proofs::Steps::terminal_seen), unfolding(crate::specs::Parsing::ramped))]
@@ -162,8 +110,8 @@ impl<F: Fn(Global, &mut Reader<'_>, u32) -> Result<Expr, Stop>> Rules<F> {
         requires { Nests self.now.levels (F.pre self.now.nested) (F.post self.now.nested) }
         ensures { Reads (spec.ramped (allows self.now.levels) (inside self.now.listed self.now.levels) reader.old) result reader.new }
     {
-        found!(reader.expect(TokenKind::RAMP));
-        if reader.at(OPEN) {
+        reader.expect(TokenKind::RAMP)?;
+        if reader.at(TokenKind::Mark(Mark::LeftParen)) {
             return self.ramp_times(reader);
         }
         Ok(Attribute::Ramp(None, None))
@@ -175,22 +123,21 @@ impl<F: Fn(Global, &mut Reader<'_>, u32) -> Result<Expr, Stop>> Rules<F> {
         ensures { Reads (spec.attribute (allows self.now.levels) (inside self.now.listed self.now.levels) reader.old) result reader.new }
     {
         if reader.at(TokenKind::EVENT) {
-            return ended(reader, TokenKind::EVENT, Attribute::Event);
+            reader.expect(TokenKind::EVENT)?;
+            return Ok(Attribute::Event);
         }
         if reader.at(TokenKind::DOT) {
-            return ended(reader, TokenKind::DOT, Attribute::Dot);
+            reader.expect(TokenKind::DOT)?;
+            return Ok(Attribute::Dot);
         }
         if reader.at(TokenKind::Word(Word::Reference)) {
-            return ended(
-                reader,
-                TokenKind::Word(Word::Reference),
-                Attribute::Reference,
-            );
+            reader.expect(TokenKind::Word(Word::Reference))?;
+            return Ok(Attribute::Reference);
         }
         if reader.at(TokenKind::ABOVE) {
-            found!(reader.expect(TokenKind::ABOVE));
-            let level = found!(self.grouped(reader));
-            return Ok(Attribute::Above(found!(boxed(self.alloc, level.1))));
+            reader.expect(TokenKind::ABOVE)?;
+            let level = self.grouped(reader)?;
+            return Ok(Attribute::Above(Boxed::new(self.alloc, level.1)?));
         }
         self.ramped(reader)
     }
@@ -200,12 +147,12 @@ impl<F: Fn(Global, &mut Reader<'_>, u32) -> Result<Expr, Stop>> Rules<F> {
         requires { Nests self.now.levels (F.pre self.now.nested) (F.post self.now.nested) }
         ensures { Reads (spec.named (allows self.now.levels) (inside self.now.listed self.now.levels) cost name reader.old) result reader.new }
     {
-        if reader.at(OPEN) {
-            return Ok(Expr::Call(name, found!(self.arguments(reader, cost))));
+        if reader.at(TokenKind::Mark(Mark::LeftParen)) {
+            return Ok(Expr::Call(name, self.arguments(reader, cost)?));
         }
         if reader.at(TokenKind::Mark(Mark::Tick)) {
-            found!(reader.expect_within(TokenKind::Mark(Mark::Tick), true, cost));
-            return Ok(Expr::Attribute(name, found!(self.attribute(reader))));
+            reader.expect_within(TokenKind::Mark(Mark::Tick), true, cost)?;
+            return Ok(Expr::Attribute(name, self.attribute(reader)?));
         }
         Ok(Expr::Name(name))
     }
@@ -215,18 +162,20 @@ impl<F: Fn(Global, &mut Reader<'_>, u32) -> Result<Expr, Stop>> Rules<F> {
         requires { Nests self.now.levels (F.pre self.now.nested) (F.post self.now.nested) }
         ensures { Reads (spec.primary (allows self.now.levels) (inside self.now.listed self.now.levels) reader.old) result reader.new }
     {
-        if number_of(reader.peek()).is_some() {
-            return number(reader);
+        if let Some(number) = number_of(reader.peek()) {
+            reader.take(true, 0)?;
+            return Ok(Expr::Number(number, unit(reader)?));
         }
-        if literal_of(reader.peek()).is_some() {
-            return literal(reader);
+        if let Some(literal) = literal_of(reader.peek()) {
+            reader.take(true, 0)?;
+            return Ok(Expr::Literal(literal));
         }
-        if name_of(reader.peek()).is_some() {
-            let name = found!(name(reader));
+        if let Some(name) = name_of(reader.peek()) {
+            reader.take(true, 0)?;
             return self.named(reader, 1, name);
         }
-        let (place, inner) = found!(self.grouped(reader));
-        Ok(Expr::Paren(place, found!(boxed(self.alloc, inner))))
+        let (place, inner) = self.grouped(reader)?;
+        Ok(Expr::Paren(place, Boxed::new(self.alloc, inner)?))
     }
 
     #[tactic(auto, using(parse_steps::proofs::Steps::terminal_seen), unfolding(crate::specs::Parsing::power))]
@@ -234,18 +183,18 @@ impl<F: Fn(Global, &mut Reader<'_>, u32) -> Result<Expr, Stop>> Rules<F> {
         requires { Nests self.now.levels (F.pre self.now.nested) (F.post self.now.nested) }
         ensures { Reads (spec.power (allows self.now.levels) (inside self.now.listed self.now.levels) reader.old) result reader.new }
     {
-        let base = Held::new(found!(self.primary(reader)));
+        let base = Held::new(self.primary(reader)?);
         if !reader.at(TokenKind::Mark(Mark::DoubleStar)) {
             return Ok(base.into_inner());
         }
-        found!(reader.expect_within(TokenKind::Mark(Mark::DoubleStar), true, 1));
-        let exponent = found!(self.primary(reader));
-        binary(
+        reader.expect_within(TokenKind::Mark(Mark::DoubleStar), true, 1)?;
+        let exponent = self.primary(reader)?;
+        Ok(binary(
             self.alloc,
             BinaryOperator::Power,
             base.into_inner(),
             exponent,
-        )
+        )?)
     }
 
     #[tactic(auto, using(parse_steps::proofs::Steps::terminal_seen), unfolding(crate::specs::Parsing::factor))]
@@ -256,9 +205,9 @@ impl<F: Fn(Global, &mut Reader<'_>, u32) -> Result<Expr, Stop>> Rules<F> {
         let Some(op) = prefix(reader.peek()) else {
             return self.power(reader);
         };
-        found!(reader.take(true, 1));
-        let operand = found!(self.primary(reader));
-        unary(self.alloc, op, operand)
+        reader.take(true, 1)?;
+        let operand = self.primary(reader)?;
+        Ok(unary(self.alloc, op, operand)?)
     }
 
     #[tactic(auto, using(parse_steps::proofs::Steps::terminal_seen), unfolding(crate::specs::Parsing::signed))]
@@ -269,9 +218,9 @@ impl<F: Fn(Global, &mut Reader<'_>, u32) -> Result<Expr, Stop>> Rules<F> {
         let Some(op) = sign(reader.peek()) else {
             return self.term(reader);
         };
-        found!(reader.take(true, 1));
-        let operand = found!(self.term(reader));
-        unary(self.alloc, op, operand)
+        reader.take(true, 1)?;
+        let operand = self.term(reader)?;
+        Ok(unary(self.alloc, op, operand)?)
     }
 
     #[tactic(auto, using(parse_steps::proofs::Steps::terminal_seen), unfolding(crate::specs::Parsing::shift))]
@@ -279,13 +228,13 @@ impl<F: Fn(Global, &mut Reader<'_>, u32) -> Result<Expr, Stop>> Rules<F> {
         requires { Nests self.now.levels (F.pre self.now.nested) (F.post self.now.nested) }
         ensures { Reads (spec.shift (allows self.now.levels) (inside self.now.listed self.now.levels) reader.old) result reader.new }
     {
-        let left = Held::new(found!(self.simple(reader)));
+        let left = Held::new(self.simple(reader)?);
         let Some(op) = shifting(reader.peek()) else {
             return Ok(left.into_inner());
         };
-        found!(reader.take(true, 1));
-        let right = found!(self.simple(reader));
-        binary(self.alloc, op, left.into_inner(), right)
+        reader.take(true, 1)?;
+        let right = self.simple(reader)?;
+        Ok(binary(self.alloc, op, left.into_inner(), right)?)
     }
 
     #[tactic(auto, using(parse_steps::proofs::Steps::terminal_seen), unfolding(crate::specs::Parsing::rel))]
@@ -293,13 +242,13 @@ impl<F: Fn(Global, &mut Reader<'_>, u32) -> Result<Expr, Stop>> Rules<F> {
         requires { Nests self.now.levels (F.pre self.now.nested) (F.post self.now.nested) }
         ensures { Reads (spec.rel (allows self.now.levels) (inside self.now.listed self.now.levels) reader.old) result reader.new }
     {
-        let left = Held::new(found!(self.shift(reader)));
+        let left = Held::new(self.shift(reader)?);
         let Some(op) = relating(reader.peek()) else {
             return Ok(left.into_inner());
         };
-        found!(reader.take(true, 1));
-        let right = found!(self.shift(reader));
-        binary(self.alloc, op, left.into_inner(), right)
+        reader.take(true, 1)?;
+        let right = self.shift(reader)?;
+        Ok(binary(self.alloc, op, left.into_inner(), right)?)
     }
 
     #[tactic(auto, using(parse_steps::proofs::Steps::terminal_seen), unfolding(crate::specs::Parsing::term))]
@@ -307,7 +256,7 @@ impl<F: Fn(Global, &mut Reader<'_>, u32) -> Result<Expr, Stop>> Rules<F> {
         requires { Nests self.now.levels (F.pre self.now.nested) (F.post self.now.nested) }
         ensures { Reads (spec.term (allows self.now.levels) (inside self.now.listed self.now.levels) reader.old) result reader.new }
     {
-        let first = found!(self.factor(reader));
+        let first = self.factor(reader)?;
         self.more_factors(reader, first)
     }
 
@@ -316,7 +265,7 @@ impl<F: Fn(Global, &mut Reader<'_>, u32) -> Result<Expr, Stop>> Rules<F> {
         requires { Nests self.now.levels (F.pre self.now.nested) (F.post self.now.nested) }
         ensures { Reads (spec.simple (allows self.now.levels) (inside self.now.listed self.now.levels) reader.old) result reader.new }
     {
-        let first = found!(self.signed(reader));
+        let first = self.signed(reader)?;
         self.more_terms(reader, first)
     }
 
@@ -325,7 +274,7 @@ impl<F: Fn(Global, &mut Reader<'_>, u32) -> Result<Expr, Stop>> Rules<F> {
         requires { Nests self.now.levels (F.pre self.now.nested) (F.post self.now.nested) }
         ensures { Reads (spec.logical (allows self.now.levels) (inside self.now.listed self.now.levels) reader.old) result reader.new }
     {
-        let first = found!(self.rel(reader));
+        let first = self.rel(reader)?;
         self.more_relations(reader, first)
     }
 
@@ -339,9 +288,9 @@ impl<F: Fn(Global, &mut Reader<'_>, u32) -> Result<Expr, Stop>> Rules<F> {
             let Some(op) = multiplying(reader.peek()) else {
                 return Ok(left.into_inner());
             };
-            found!(reader.take(true, 1));
-            let right = found!(self.factor(reader));
-            left = Held::new(found!(binary(self.alloc, op, left.into_inner(), right)));
+            reader.take(true, 1)?;
+            let right = self.factor(reader)?;
+            left = Held::new(binary(self.alloc, op, left.into_inner(), right)?);
         }
         Ok(left.into_inner())
     }
@@ -356,9 +305,9 @@ impl<F: Fn(Global, &mut Reader<'_>, u32) -> Result<Expr, Stop>> Rules<F> {
             let Some(op) = adding(reader.peek()) else {
                 return Ok(left.into_inner());
             };
-            found!(reader.take(true, 1));
-            let right = found!(self.term(reader));
-            left = Held::new(found!(binary(self.alloc, op, left.into_inner(), right)));
+            reader.take(true, 1)?;
+            let right = self.term(reader)?;
+            left = Held::new(binary(self.alloc, op, left.into_inner(), right)?);
         }
         Ok(left.into_inner())
     }
@@ -368,11 +317,12 @@ impl<F: Fn(Global, &mut Reader<'_>, u32) -> Result<Expr, Stop>> Rules<F> {
         requires { Nests self.now.levels (F.pre self.now.nested) (F.post self.now.nested) }
         ensures { Reads (spec.arguments (allows self.now.levels) (inside self.now.listed self.now.levels) cost reader.old) result reader.new }
     {
-        found!(reader.expect_within(OPEN, self.levels > 0, cost));
-        let first = found!(self.nested(reader));
-        let all = found!(pushed(Items::new(self.alloc), first));
-        let all = found!(self.more_arguments(reader, all));
-        ended(reader, CLOSE, all)
+        reader.expect_within(TokenKind::Mark(Mark::LeftParen), self.levels > 0, cost)?;
+        let mut all = Items::new(self.alloc);
+        all.push(self.nested(reader)?)?;
+        let all = self.more_arguments(reader, all)?;
+        reader.expect(TokenKind::Mark(Mark::RightParen))?;
+        Ok(all)
     }
 
     #[tactic(auto, using(parse_steps::proofs::Steps::terminal_seen), unfolding(crate::specs::Parsing::more_arguments))]
@@ -385,12 +335,11 @@ impl<F: Fn(Global, &mut Reader<'_>, u32) -> Result<Expr, Stop>> Rules<F> {
         ensures { Reads (spec.more_arguments (allows self.now.levels) (inside self.now.listed self.now.levels) all reader.old) result reader.new }
     {
         for _turn in 0..reader.left() {
-            if !reader.at(COMMA) {
+            if !reader.at(TokenKind::Mark(Mark::Comma)) {
                 return Ok(all);
             }
-            found!(reader.expect(COMMA));
-            let next = found!(self.nested(reader));
-            all = found!(pushed(all, next));
+            reader.expect(TokenKind::Mark(Mark::Comma))?;
+            all.push(self.nested(reader)?)?;
         }
         Ok(all)
     }
@@ -407,9 +356,9 @@ impl<F: Fn(Global, &mut Reader<'_>, u32) -> Result<Expr, Stop>> Rules<F> {
         ensures { Reads (spec.once (allows self.now.levels) (inside self.now.listed self.now.levels) (terminals.word word) op left reader.old) result reader.new }
     {
         let left = Held::new(left);
-        found!(reader.expect_within(TokenKind::Word(word), true, 1));
-        let right = found!(self.rel(reader));
-        binary(self.alloc, op, left.into_inner(), right)
+        reader.expect_within(TokenKind::Word(word), true, 1)?;
+        let right = self.rel(reader)?;
+        Ok(binary(self.alloc, op, left.into_inner(), right)?)
     }
 
     #[tactic(auto, using(parse_steps::proofs::Steps::terminal_seen), unfolding(crate::specs::Parsing::chain))]
@@ -423,7 +372,7 @@ impl<F: Fn(Global, &mut Reader<'_>, u32) -> Result<Expr, Stop>> Rules<F> {
         requires { Nests self.now.levels (F.pre self.now.nested) (F.post self.now.nested) }
         ensures { Reads (spec.chain (allows self.now.levels) (inside self.now.listed self.now.levels) (terminals.word word) op left reader.old) result reader.new }
     {
-        let first = found!(self.once(reader, word, op, left));
+        let first = self.once(reader, word, op, left)?;
         self.more_links(reader, word, op, first)
     }
 
@@ -443,9 +392,9 @@ impl<F: Fn(Global, &mut Reader<'_>, u32) -> Result<Expr, Stop>> Rules<F> {
             if !reader.at(TokenKind::Word(word)) {
                 return Ok(left.into_inner());
             }
-            found!(reader.expect_within(TokenKind::Word(word), true, 1));
-            let right = found!(self.rel(reader));
-            left = Held::new(found!(binary(self.alloc, op, left.into_inner(), right)));
+            reader.expect_within(TokenKind::Word(word), true, 1)?;
+            let right = self.rel(reader)?;
+            left = Held::new(binary(self.alloc, op, left.into_inner(), right)?);
         }
         Ok(left.into_inner())
     }

@@ -7,7 +7,7 @@ use crate::tokens::begins_break;
 use ams_token::{Mark, TokenKind, Word};
 use ams_tree::{BreakElement, Expr};
 use held_value::Held;
-use parse_expr::{found, listed_name, outermost, pushed};
+use parse_expr::{listed_name, outermost};
 use parse_steps::{Reader, Stop};
 use sqlite_items::Items;
 use std::alloc::Global;
@@ -22,9 +22,9 @@ fn broken(
     ensures { Reads (spec.broken most_operators levels selector reader.old) result reader.new }
 {
     let selector = Held::new(selector);
-    let quantity = Held::new(found!(listed_name(alloc, reader, levels)));
-    found!(reader.expect(TokenKind::Mark(Mark::Arrow)));
-    let value = found!(outermost(alloc, reader, levels));
+    let quantity = Held::new(listed_name(alloc, reader, levels)?);
+    reader.expect(TokenKind::Mark(Mark::Arrow))?;
+    let value = outermost(alloc, reader, levels)?;
     Ok(BreakElement {
         selector: selector.into_inner(),
         quantity: quantity.into_inner(),
@@ -36,9 +36,9 @@ fn broken(
 fn selected(alloc: Global, reader: &mut Reader<'_>, levels: u32) -> Result<BreakElement, Stop>
     ensures { Reads (spec.selected most_operators levels reader.old) result reader.new }
 {
-    found!(reader.expect(TokenKind::Word(Word::For)));
-    let selector = Held::new(found!(listed_name(alloc, reader, levels)));
-    found!(reader.expect(TokenKind::Word(Word::Use)));
+    reader.expect(TokenKind::Word(Word::For))?;
+    let selector = Held::new(listed_name(alloc, reader, levels)?);
+    reader.expect(TokenKind::Word(Word::Use))?;
     broken(alloc, reader, levels, Some(selector.into_inner()))
 }
 
@@ -61,14 +61,14 @@ fn more_breaks(
 ) -> Result<Items<BreakElement>, Stop>
     ensures { Reads (spec.more_breaks most_operators levels first reader.old) result reader.new }
 {
-    let mut all = found!(pushed(Items::new(alloc), first));
+    let mut all = Items::new(alloc);
+    all.push(first)?;
     for _turn in 0..reader.left() {
         if !reader.at(TokenKind::Mark(Mark::Comma)) {
             return Ok(all);
         }
-        found!(reader.expect(TokenKind::Mark(Mark::Comma)));
-        let next = found!(break_element(alloc, reader, levels));
-        all = found!(pushed(all, next));
+        reader.expect(TokenKind::Mark(Mark::Comma))?;
+        all.push(break_element(alloc, reader, levels)?)?;
     }
     Ok(all)
 }
@@ -81,7 +81,7 @@ fn break_list(
 ) -> Result<Items<BreakElement>, Stop>
     ensures { Reads (spec.break_list most_operators levels reader.old) result reader.new }
 {
-    let first = found!(break_element(alloc, reader, levels));
+    let first = break_element(alloc, reader, levels)?;
     more_breaks(alloc, reader, levels, first)
 }
 

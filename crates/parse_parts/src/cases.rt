@@ -5,7 +5,7 @@ ghost use Rattle.parse_parts.specs.Parsing as spec;
 
 use ams_token::{Mark, TokenKind, Word};
 use ams_tree::Choice;
-use parse_expr::{ended, found, outermost_simple, pushed};
+use parse_expr::outermost_simple;
 use parse_steps::{Reader, Stop};
 use sqlite_items::Items;
 use std::alloc::Global;
@@ -15,10 +15,10 @@ fn one_choice(alloc: Global, reader: &mut Reader<'_>, levels: u32) -> Result<Cho
     ensures { Reads (spec.one_choice most_operators levels reader.old) result reader.new }
 {
     if reader.at(TokenKind::Word(Word::Others)) {
-        let place = found!(reader.expect(TokenKind::Word(Word::Others)));
+        let place = reader.expect(TokenKind::Word(Word::Others))?;
         return Ok(Choice::Others(place));
     }
-    Ok(Choice::Value(found!(outermost_simple(alloc, reader, levels))))
+    Ok(Choice::Value(outermost_simple(alloc, reader, levels)?))
 }
 
 #[tactic(auto, using(parse_steps::proofs::Steps::terminal_seen), unfolding(crate::specs::Parsing::more_choices))]
@@ -30,14 +30,14 @@ fn more_choices(
 ) -> Result<Items<Choice>, Stop>
     ensures { Reads (spec.more_choices most_operators levels first reader.old) result reader.new }
 {
-    let mut all = found!(pushed(Items::new(alloc), first));
+    let mut all = Items::new(alloc);
+    all.push(first)?;
     for _turn in 0..reader.left() {
         if !reader.at(TokenKind::Mark(Mark::Bar)) {
             return Ok(all);
         }
-        found!(reader.expect(TokenKind::Mark(Mark::Bar)));
-        let next = found!(one_choice(alloc, reader, levels));
-        all = found!(pushed(all, next));
+        reader.expect(TokenKind::Mark(Mark::Bar))?;
+        all.push(one_choice(alloc, reader, levels)?)?;
     }
     Ok(all)
 }
@@ -47,8 +47,9 @@ fn more_choices(
 pub fn choices(alloc: Global, reader: &mut Reader<'_>, levels: u32) -> Result<Items<Choice>, Stop>
     ensures { Reads (spec.choices most_operators levels reader.old) result reader.new }
 {
-    found!(reader.expect(TokenKind::Word(Word::When)));
-    let first = found!(one_choice(alloc, reader, levels));
-    let all = found!(more_choices(alloc, reader, levels, first));
-    ended(reader, TokenKind::Mark(Mark::Arrow), all)
+    reader.expect(TokenKind::Word(Word::When))?;
+    let first = one_choice(alloc, reader, levels)?;
+    let all = more_choices(alloc, reader, levels, first)?;
+    reader.expect(TokenKind::Mark(Mark::Arrow))?;
+    Ok(all)
 }

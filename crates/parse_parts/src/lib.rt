@@ -15,5 +15,5 @@ pub use cases::choices;
 pub use listed::{name_list, names_on};
 pub use lists::{more_names, name, name_after, names};
 pub use ranges::range;
-pub use statements::{assertion, closed, condition, severity, string};
+pub use statements::{assertion, condition, ending, severity, string};
 pub use waveforms::{delay_mechanism, maybe_delay, waveform};

@@ -5,7 +5,7 @@ ghost use Rattle.parse_parts.specs.Parsing as spec;
 
 use ams_token::{Mark, TokenKind, Word};
 use ams_tree::Expr;
-use parse_expr::{found, listed_name, pushed};
+use parse_expr::listed_name;
 use parse_steps::{Reader, Stop};
 use sqlite_items::Items;
 use std::alloc::Global;
@@ -20,14 +20,14 @@ fn more_listed(
 ) -> Result<Items<Expr>, Stop>
     ensures { Reads (spec.more_listed most_operators levels first reader.old) result reader.new }
 {
-    let mut all = found!(pushed(Items::new(alloc), first));
+    let mut all = Items::new(alloc);
+    all.push(first)?;
     for _turn in 0..reader.left() {
         if !reader.at(TokenKind::Mark(Mark::Comma)) {
             return Ok(all);
         }
-        found!(reader.expect(TokenKind::Mark(Mark::Comma)));
-        let next = found!(listed_name(alloc, reader, levels));
-        all = found!(pushed(all, next));
+        reader.expect(TokenKind::Mark(Mark::Comma))?;
+        all.push(listed_name(alloc, reader, levels)?)?;
     }
     Ok(all)
 }
@@ -37,7 +37,7 @@ fn more_listed(
 pub fn name_list(alloc: Global, reader: &mut Reader<'_>, levels: u32) -> Result<Items<Expr>, Stop>
     ensures { Reads (spec.name_list most_operators levels reader.old) result reader.new }
 {
-    let first = found!(listed_name(alloc, reader, levels));
+    let first = listed_name(alloc, reader, levels)?;
     more_listed(alloc, reader, levels, first)
 }
 
@@ -49,6 +49,6 @@ pub fn names_on(alloc: Global, reader: &mut Reader<'_>, levels: u32) -> Result<I
     if !reader.at(TokenKind::Word(Word::On)) {
         return Ok(Items::new(alloc));
     }
-    found!(reader.expect(TokenKind::Word(Word::On)));
+    reader.expect(TokenKind::Word(Word::On))?;
     name_list(alloc, reader, levels)
 }

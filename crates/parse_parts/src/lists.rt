@@ -6,7 +6,7 @@ ghost use Rattle.parse_parts.specs.Parsing as spec;
 
 use ams_token::{Mark, TokenKind, Word};
 use ams_tree::Name;
-use parse_expr::{found, name_of, pushed};
+use parse_expr::name_of;
 use parse_steps::{Reader, Stop};
 use sqlite_items::Items;
 use std::alloc::Global;
@@ -21,7 +21,7 @@ pub fn name(reader: &mut Reader<'_>) -> Result<Name, Stop>
     let Some(name) = name_of(reader.peek()) else {
         return Err(Stop::Syntax(reader.left()));
     };
-    found!(reader.take(true, 0));
+    reader.take(true, 0)?;
     Ok(name)
 }
 
@@ -30,14 +30,14 @@ pub fn name(reader: &mut Reader<'_>) -> Result<Name, Stop>
 pub fn more_names(alloc: Global, reader: &mut Reader<'_>, first: Name) -> Result<Items<Name>, Stop>
     ensures { Reads (spec.more_names first reader.old) result reader.new }
 {
-    let mut all = found!(pushed(Items::new(alloc), first));
+    let mut all = Items::new(alloc);
+    all.push(first)?;
     for _turn in 0..reader.left() {
         if !reader.at(COMMA) {
             return Ok(all);
         }
-        found!(reader.expect(COMMA));
-        let next = found!(name(reader));
-        all = found!(pushed(all, next));
+        reader.expect(COMMA)?;
+        all.push(name(reader)?)?;
     }
     Ok(all)
 }
@@ -47,7 +47,7 @@ pub fn more_names(alloc: Global, reader: &mut Reader<'_>, first: Name) -> Result
 pub fn names(alloc: Global, reader: &mut Reader<'_>) -> Result<Items<Name>, Stop>
     ensures { Reads (spec.names reader.old) result reader.new }
 {
-    let first = found!(name(reader));
+    let first = name(reader)?;
     more_names(alloc, reader, first)
 }
 
@@ -56,6 +56,6 @@ pub fn names(alloc: Global, reader: &mut Reader<'_>) -> Result<Items<Name>, Stop
 pub fn name_after(reader: &mut Reader<'_>, word: Word) -> Result<Name, Stop>
     ensures { Reads (spec.name_after word reader.old) result reader.new }
 {
-    found!(reader.expect(TokenKind::Word(word)));
+    reader.expect(TokenKind::Word(word))?;
     name(reader)
 }

@@ -8,7 +8,7 @@ ghost use Rattle.parse_parts.specs.Parsing as spec;
 use crate::tokens::direction_of;
 use ams_tree::{Direction, Range};
 use held_value::Held;
-use parse_expr::{found, outermost_simple};
+use parse_expr::outermost_simple;
 use parse_steps::{Reader, Stop};
 use std::alloc::Global;
 
@@ -19,7 +19,7 @@ fn direction(reader: &mut Reader<'_>) -> Result<Direction, Stop>
     let Some(direction) = direction_of(reader.peek()) else {
         return Err(Stop::Syntax(reader.left()));
     };
-    found!(reader.take(true, 0));
+    reader.take(true, 0)?;
     Ok(direction)
 }
 
@@ -28,9 +28,9 @@ fn direction(reader: &mut Reader<'_>) -> Result<Direction, Stop>
 pub fn range(alloc: Global, reader: &mut Reader<'_>, levels: u32) -> Result<Range, Stop>
     ensures { Reads (spec.range most_operators levels reader.old) result reader.new }
 {
-    let left = Held::new(found!(outermost_simple(alloc, reader, levels)));
-    let direction = found!(direction(reader));
-    let right = found!(outermost_simple(alloc, reader, levels));
+    let left = Held::new(outermost_simple(alloc, reader, levels)?);
+    let direction = direction(reader)?;
+    let right = outermost_simple(alloc, reader, levels)?;
     Ok(Range {
         left: left.into_inner(),
         direction,

@@ -10,28 +10,18 @@ use crate::tokens::string_of;
 use ams_token::{Mark, Place, TokenKind, Word};
 use ams_tree::{Assertion, Expr, Literal, Name};
 use held_value::Held;
-use parse_expr::{ended, found, outermost};
+use parse_expr::outermost;
 use parse_steps::{Reader, Stop};
 use std::alloc::Global;
 
 /// `end`, this word, and the semicolon, whose place it gives.
 #[tactic(auto, using(parse_steps::proofs::Steps::terminal_seen), unfolding(crate::specs::Parsing::ending))]
-fn ending(reader: &mut Reader<'_>, word: Word) -> Result<Place, Stop>
+pub fn ending(reader: &mut Reader<'_>, word: Word) -> Result<Place, Stop>
     ensures { Reads (spec.ending word reader.old) result reader.new }
 {
-    found!(reader.expect(TokenKind::Word(Word::End)));
-    found!(reader.expect(TokenKind::Word(word)));
+    reader.expect(TokenKind::Word(Word::End))?;
+    reader.expect(TokenKind::Word(word))?;
     reader.expect(TokenKind::Mark(Mark::Semicolon))
-}
-
-/// A tree whose text ends with `end`, this word, and the semicolon.
-pub fn closed<T: Drop>(reader: &mut Reader<'_>, word: Word, tree: T) -> Result<T, Stop>
-    ensures { Reads (reading.and_then (spec.ending word reader.old) (λ _. reading.pure tree)) result reader.new }
-{
-    match ending(reader, word) {
-        Ok(_) => Ok(tree),
-        Err(stop) => Err(stop),
-    }
 }
 
 /// A string.
@@ -42,7 +32,7 @@ pub fn string(reader: &mut Reader<'_>) -> Result<Literal, Stop>
     let Some(text) = string_of(reader.peek()) else {
         return Err(Stop::Syntax(reader.left()));
     };
-    found!(reader.take(true, 0));
+    reader.take(true, 0)?;
     Ok(text)
 }
 
@@ -54,8 +44,8 @@ pub fn severity(reader: &mut Reader<'_>) -> Result<Option<Name>, Stop>
     if !reader.at(TokenKind::Word(Word::Severity)) {
         return Ok(None);
     }
-    found!(reader.expect(TokenKind::Word(Word::Severity)));
-    Ok(Some(found!(name(reader))))
+    reader.expect(TokenKind::Word(Word::Severity))?;
+    Ok(Some(name(reader)?))
 }
 
 #[tactic(auto, using(parse_steps::proofs::Steps::terminal_seen), unfolding(crate::specs::Parsing::message))]
@@ -65,8 +55,8 @@ fn message(reader: &mut Reader<'_>) -> Result<Option<Literal>, Stop>
     if !reader.at(TokenKind::Word(Word::Report)) {
         return Ok(None);
     }
-    found!(reader.expect(TokenKind::Word(Word::Report)));
-    Ok(Some(found!(string(reader))))
+    reader.expect(TokenKind::Word(Word::Report))?;
+    Ok(Some(string(reader)?))
 }
 
 /// An assertion with its semicolon.
@@ -74,20 +64,17 @@ fn message(reader: &mut Reader<'_>) -> Result<Option<Literal>, Stop>
 pub fn assertion(alloc: Global, reader: &mut Reader<'_>, levels: u32) -> Result<Assertion, Stop>
     ensures { Reads (spec.assertion most_operators levels reader.old) result reader.new }
 {
-    let place = found!(reader.expect(TokenKind::Word(Word::Assert)));
-    let condition = Held::new(found!(outermost(alloc, reader, levels)));
-    let text = found!(message(reader));
-    let severity = found!(severity(reader));
-    ended(
-        reader,
-        TokenKind::Mark(Mark::Semicolon),
-        Assertion {
-            place,
-            condition: condition.into_inner(),
-            text,
-            severity,
-        },
-    )
+    let place = reader.expect(TokenKind::Word(Word::Assert))?;
+    let condition = Held::new(outermost(alloc, reader, levels)?);
+    let text = message(reader)?;
+    let severity = severity(reader)?;
+    reader.expect(TokenKind::Mark(Mark::Semicolon))?;
+    Ok(Assertion {
+        place,
+        condition: condition.into_inner(),
+        text,
+        severity,
+    })
 }
 
 /// The condition behind `when`, where it is written.
@@ -98,6 +85,6 @@ pub fn condition(alloc: Global, reader: &mut Reader<'_>, levels: u32) -> Result<
     if !reader.at(TokenKind::Word(Word::When)) {
         return Ok(None);
     }
-    found!(reader.expect(TokenKind::Word(Word::When)));
-    Ok(Some(found!(outermost(alloc, reader, levels))))
+    reader.expect(TokenKind::Word(Word::When))?;
+    Ok(Some(outermost(alloc, reader, levels)?))
 }

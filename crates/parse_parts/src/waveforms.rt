@@ -7,7 +7,7 @@ use crate::tokens::begins_delay;
 use ams_token::{Mark, TokenKind, Word};
 use ams_tree::{DelayMechanism, Expr, WaveformElement};
 use held_value::Held;
-use parse_expr::{ended, found, outermost, pushed};
+use parse_expr::outermost;
 use parse_steps::{Reader, Stop};
 use sqlite_items::Items;
 use std::alloc::Global;
@@ -16,13 +16,10 @@ use std::alloc::Global;
 fn rejection(alloc: Global, reader: &mut Reader<'_>, levels: u32) -> Result<DelayMechanism, Stop>
     ensures { Reads (spec.rejection most_operators levels reader.old) result reader.new }
 {
-    let place = found!(reader.expect(TokenKind::Word(Word::Reject)));
-    let limit = found!(outermost(alloc, reader, levels));
-    ended(
-        reader,
-        TokenKind::Word(Word::Inertial),
-        DelayMechanism::Reject(place, limit),
-    )
+    let place = reader.expect(TokenKind::Word(Word::Reject))?;
+    let limit = Held::new(outermost(alloc, reader, levels)?);
+    reader.expect(TokenKind::Word(Word::Inertial))?;
+    Ok(DelayMechanism::Reject(place, limit.into_inner()))
 }
 
 /// How a signal takes its new values.
@@ -35,13 +32,13 @@ pub fn delay_mechanism(
     ensures { Reads (spec.delay_mechanism most_operators levels reader.old) result reader.new }
 {
     if reader.at(TokenKind::Word(Word::Transport)) {
-        let place = found!(reader.expect(TokenKind::Word(Word::Transport)));
+        let place = reader.expect(TokenKind::Word(Word::Transport))?;
         return Ok(DelayMechanism::Transport(place));
     }
     if reader.at(TokenKind::Word(Word::Reject)) {
         return rejection(alloc, reader, levels);
     }
-    let place = found!(reader.expect(TokenKind::Word(Word::Inertial)));
+    let place = reader.expect(TokenKind::Word(Word::Inertial))?;
     Ok(DelayMechanism::Inertial(place))
 }
 
@@ -57,7 +54,7 @@ pub fn maybe_delay(
     if !begins_delay(reader.peek()) {
         return Ok(None);
     }
-    Ok(Some(found!(delay_mechanism(alloc, reader, levels))))
+    Ok(Some(delay_mechanism(alloc, reader, levels)?))
 }
 
 #[tactic(auto, using(parse_steps::proofs::Steps::terminal_seen), unfolding(crate::specs::Parsing::after))]
@@ -67,8 +64,8 @@ fn after(alloc: Global, reader: &mut Reader<'_>, levels: u32) -> Result<Option<E
     if !reader.at(TokenKind::Word(Word::After)) {
         return Ok(None);
     }
-    found!(reader.expect(TokenKind::Word(Word::After)));
-    Ok(Some(found!(outermost(alloc, reader, levels))))
+    reader.expect(TokenKind::Word(Word::After))?;
+    Ok(Some(outermost(alloc, reader, levels)?))
 }
 
 #[tactic(auto, using(parse_steps::proofs::Steps::terminal_seen), unfolding(crate::specs::Parsing::waveform_element))]
@@ -79,8 +76,8 @@ fn waveform_element(
 ) -> Result<WaveformElement, Stop>
     ensures { Reads (spec.waveform_element most_operators levels reader.old) result reader.new }
 {
-    let value = Held::new(found!(outermost(alloc, reader, levels)));
-    let after = found!(after(alloc, reader, levels));
+    let value = Held::new(outermost(alloc, reader, levels)?);
+    let after = after(alloc, reader, levels)?;
     Ok(WaveformElement {
         value: value.into_inner(),
         after,
@@ -96,14 +93,14 @@ fn more_elements(
 ) -> Result<Items<WaveformElement>, Stop>
     ensures { Reads (spec.more_elements most_operators levels first reader.old) result reader.new }
 {
-    let mut all = found!(pushed(Items::new(alloc), first));
+    let mut all = Items::new(alloc);
+    all.push(first)?;
     for _turn in 0..reader.left() {
         if !reader.at(TokenKind::Mark(Mark::Comma)) {
             return Ok(all);
         }
-        found!(reader.expect(TokenKind::Mark(Mark::Comma)));
-        let next = found!(waveform_element(alloc, reader, levels));
-        all = found!(pushed(all, next));
+        reader.expect(TokenKind::Mark(Mark::Comma))?;
+        all.push(waveform_element(alloc, reader, levels)?)?;
     }
     Ok(all)
 }
@@ -117,6 +114,6 @@ pub fn waveform(
 ) -> Result<Items<WaveformElement>, Stop>
     ensures { Reads (spec.waveform most_operators levels reader.old) result reader.new }
 {
-    let first = found!(waveform_element(alloc, reader, levels));
+    let first = waveform_element(alloc, reader, levels)?;
     more_elements(alloc, reader, levels, first)
 }

@@ -15,8 +15,8 @@ use crate::tokens::{begins_simple, begins_statement};
 use ams_token::{Place, TokenKind, Word};
 use ams_tree::{Alternative, Branch, Expr, Iteration, Seq};
 use held_value::Held;
-use parse_expr::{found, outermost, pushed};
-use parse_parts::{choices, closed, name, range};
+use parse_expr::outermost;
+use parse_parts::{choices, ending, name, range};
 use parse_steps::{Reader, Stop};
 use sqlite_items::Items;
 use std::alloc::Global;
@@ -61,8 +61,7 @@ impl<F: Fn(Global, &mut Reader<'_>, u32) -> Result<Seq, Stop>> Statements<F> {
             if !begins_statement(reader.peek()) {
                 return Ok(all);
             }
-            let next = found!(self.inner(reader));
-            all = found!(pushed(all, next));
+            all.push(self.inner(reader)?)?;
         }
         Ok(all)
     }
@@ -72,9 +71,9 @@ impl<F: Fn(Global, &mut Reader<'_>, u32) -> Result<Seq, Stop>> Statements<F> {
         requires { Nests self.now.levels (F.pre self.now.nested) (F.post self.now.nested) }
         ensures { Reads (at_level spec.branch self.now.levels reader.old) result reader.new }
     {
-        let condition = Held::new(found!(self.expression(reader)));
-        found!(reader.expect(TokenKind::Word(Word::Then)));
-        let body = found!(self.body(reader));
+        let condition = Held::new(self.expression(reader)?);
+        reader.expect(TokenKind::Word(Word::Then))?;
+        let body = self.body(reader)?;
         Ok(Branch {
             condition: condition.into_inner(),
             body,
@@ -94,9 +93,8 @@ impl<F: Fn(Global, &mut Reader<'_>, u32) -> Result<Seq, Stop>> Statements<F> {
             if !reader.at(TokenKind::Word(Word::Elsif)) {
                 return Ok(all);
             }
-            found!(reader.expect(TokenKind::Word(Word::Elsif)));
-            let next = found!(self.branch(reader));
-            all = found!(pushed(all, next));
+            reader.expect(TokenKind::Word(Word::Elsif))?;
+            all.push(self.branch(reader)?)?;
         }
         Ok(all)
     }
@@ -109,8 +107,8 @@ impl<F: Fn(Global, &mut Reader<'_>, u32) -> Result<Seq, Stop>> Statements<F> {
         if !reader.at(TokenKind::Word(Word::Else)) {
             return Ok(None);
         }
-        found!(reader.expect(TokenKind::Word(Word::Else)));
-        Ok(Some(found!(self.body(reader))))
+        reader.expect(TokenKind::Word(Word::Else))?;
+        Ok(Some(self.body(reader)?))
     }
 
     #[tactic(auto, using(parse_steps::proofs::Steps::terminal_seen), unfolding(crate::specs::Parsing::rest_of_if))]
@@ -118,10 +116,12 @@ impl<F: Fn(Global, &mut Reader<'_>, u32) -> Result<Seq, Stop>> Statements<F> {
         requires { Nests self.now.levels (F.pre self.now.nested) (F.post self.now.nested) }
         ensures { Reads (at_level spec.rest_of_if self.now.levels place first reader.old) result reader.new }
     {
-        let all = found!(pushed(Items::new(self.alloc), first));
-        let all = found!(self.more_branches(reader, all));
-        let other = found!(self.otherwise(reader));
-        closed(reader, Word::If, Seq::If(place, all, other))
+        let mut all = Items::new(self.alloc);
+        all.push(first)?;
+        let all = self.more_branches(reader, all)?;
+        let other = Held::new(self.otherwise(reader)?);
+        ending(reader, Word::If)?;
+        Ok(Seq::If(place, all, other.into_inner()))
     }
 
     #[tactic(auto, using(parse_steps::proofs::Steps::terminal_seen), unfolding(crate::specs::Parsing::if_statement))]
@@ -129,8 +129,8 @@ impl<F: Fn(Global, &mut Reader<'_>, u32) -> Result<Seq, Stop>> Statements<F> {
         requires { Nests self.now.levels (F.pre self.now.nested) (F.post self.now.nested) }
         ensures { Reads (at_level spec.if_statement self.now.levels reader.old) result reader.new }
     {
-        let place = found!(reader.expect_within(TokenKind::Word(Word::If), self.levels > 0, 0));
-        let first = found!(self.branch(reader));
+        let place = reader.expect_within(TokenKind::Word(Word::If), self.levels > 0, 0)?;
+        let first = self.branch(reader)?;
         self.rest_of_if(reader, place, first)
     }
 
@@ -139,8 +139,8 @@ impl<F: Fn(Global, &mut Reader<'_>, u32) -> Result<Seq, Stop>> Statements<F> {
         requires { Nests self.now.levels (F.pre self.now.nested) (F.post self.now.nested) }
         ensures { Reads (at_level spec.alternative self.now.levels reader.old) result reader.new }
     {
-        let choices = found!(choices(self.alloc, reader, self.inside()));
-        let body = found!(self.body(reader));
+        let choices = choices(self.alloc, reader, self.inside())?;
+        let body = self.body(reader)?;
         Ok(Alternative { choices, body })
     }
 
@@ -157,8 +157,7 @@ impl<F: Fn(Global, &mut Reader<'_>, u32) -> Result<Seq, Stop>> Statements<F> {
             if !reader.at(TokenKind::Word(Word::When)) {
                 return Ok(all);
             }
-            let next = found!(self.alternative(reader));
-            all = found!(pushed(all, next));
+            all.push(self.alternative(reader)?)?;
         }
         Ok(all)
     }
@@ -168,8 +167,8 @@ impl<F: Fn(Global, &mut Reader<'_>, u32) -> Result<Seq, Stop>> Statements<F> {
         requires { Nests self.now.levels (F.pre self.now.nested) (F.post self.now.nested) }
         ensures { Reads (at_level spec.alternatives self.now.levels reader.old) result reader.new }
     {
-        let first = found!(self.alternative(reader));
-        let all = found!(pushed(Items::new(self.alloc), first));
+        let mut all = Items::new(self.alloc);
+        all.push(self.alternative(reader)?)?;
         self.more_alternatives(reader, all)
     }
 
@@ -178,15 +177,12 @@ impl<F: Fn(Global, &mut Reader<'_>, u32) -> Result<Seq, Stop>> Statements<F> {
         requires { Nests self.now.levels (F.pre self.now.nested) (F.post self.now.nested) }
         ensures { Reads (at_level spec.case_statement self.now.levels reader.old) result reader.new }
     {
-        let place = found!(reader.expect_within(TokenKind::Word(Word::Case), self.levels > 0, 0));
-        let value = Held::new(found!(self.expression(reader)));
-        found!(reader.expect(TokenKind::Word(Word::Is)));
-        let all = found!(self.alternatives(reader));
-        closed(
-            reader,
-            Word::Case,
-            Seq::Case(place, value.into_inner(), all),
-        )
+        let place = reader.expect_within(TokenKind::Word(Word::Case), self.levels > 0, 0)?;
+        let value = Held::new(self.expression(reader)?);
+        reader.expect(TokenKind::Word(Word::Is))?;
+        let all = self.alternatives(reader)?;
+        ending(reader, Word::Case)?;
+        Ok(Seq::Case(place, value.into_inner(), all))
     }
 
     #[tactic(auto, using(parse_steps::proofs::Steps::terminal_seen), unfolding(crate::specs::Parsing::rest_of_loop))]
@@ -200,21 +196,18 @@ impl<F: Fn(Global, &mut Reader<'_>, u32) -> Result<Seq, Stop>> Statements<F> {
         ensures { Reads (at_level spec.rest_of_loop self.now.levels place iteration reader.old) result reader.new }
     {
         let iteration = Held::new(iteration);
-        let body = found!(self.body(reader));
-        closed(
-            reader,
-            Word::Loop,
-            Seq::Loop(place, iteration.into_inner(), body),
-        )
+        let body = self.body(reader)?;
+        ending(reader, Word::Loop)?;
+        Ok(Seq::Loop(place, iteration.into_inner(), body))
     }
 
     #[tactic(auto, using(parse_steps::proofs::Steps::terminal_seen), unfolding(crate::specs::Parsing::parameter))]
     fn parameter(&self, reader: &mut Reader<'_>) -> Result<Iteration, Stop>
         ensures { Reads (at_level spec.parameter self.now.levels reader.old) result reader.new }
     {
-        let name = found!(name(reader));
-        found!(reader.expect(TokenKind::Word(Word::In)));
-        let range = found!(range(self.alloc, reader, self.inside()));
+        let name = name(reader)?;
+        reader.expect(TokenKind::Word(Word::In))?;
+        let range = range(self.alloc, reader, self.inside())?;
         Ok(Iteration::For(name, range))
     }
 
@@ -223,9 +216,9 @@ impl<F: Fn(Global, &mut Reader<'_>, u32) -> Result<Seq, Stop>> Statements<F> {
         requires { Nests self.now.levels (F.pre self.now.nested) (F.post self.now.nested) }
         ensures { Reads (at_level spec.while_loop self.now.levels reader.old) result reader.new }
     {
-        let place = found!(reader.expect_within(TokenKind::Word(Word::While), self.levels > 0, 0));
-        let condition = Held::new(found!(self.expression(reader)));
-        found!(reader.expect(TokenKind::Word(Word::Loop)));
+        let place = reader.expect_within(TokenKind::Word(Word::While), self.levels > 0, 0)?;
+        let condition = Held::new(self.expression(reader)?);
+        reader.expect(TokenKind::Word(Word::Loop))?;
         self.rest_of_loop(reader, place, Iteration::While(condition.into_inner()))
     }
 
@@ -234,9 +227,9 @@ impl<F: Fn(Global, &mut Reader<'_>, u32) -> Result<Seq, Stop>> Statements<F> {
         requires { Nests self.now.levels (F.pre self.now.nested) (F.post self.now.nested) }
         ensures { Reads (at_level spec.for_loop self.now.levels reader.old) result reader.new }
     {
-        let place = found!(reader.expect_within(TokenKind::Word(Word::For), self.levels > 0, 0));
-        let iteration = Held::new(found!(self.parameter(reader)));
-        found!(reader.expect(TokenKind::Word(Word::Loop)));
+        let place = reader.expect_within(TokenKind::Word(Word::For), self.levels > 0, 0)?;
+        let iteration = Held::new(self.parameter(reader)?);
+        reader.expect(TokenKind::Word(Word::Loop))?;
         self.rest_of_loop(reader, place, iteration.into_inner())
     }
 
@@ -245,7 +238,7 @@ impl<F: Fn(Global, &mut Reader<'_>, u32) -> Result<Seq, Stop>> Statements<F> {
         requires { Nests self.now.levels (F.pre self.now.nested) (F.post self.now.nested) }
         ensures { Reads (at_level spec.plain_loop self.now.levels reader.old) result reader.new }
     {
-        let place = found!(reader.expect_within(TokenKind::Word(Word::Loop), self.levels > 0, 0));
+        let place = reader.expect_within(TokenKind::Word(Word::Loop), self.levels > 0, 0)?;
         self.rest_of_loop(reader, place, Iteration::Endless)
     }
 

@@ -8,7 +8,7 @@ ghost use Rattle.parse_seq.specs.Parsing as spec;
 use ams_token::{Mark, TokenKind, Word};
 use ams_tree::{Expr, Name, Report, Seq};
 use held_value::Held;
-use parse_expr::{ended, found, name_of, outermost};
+use parse_expr::{name_of, outermost};
 use parse_parts::{
     assertion, break_elements, condition, maybe_delay, name, names_on, severity, string, waveform,
 };
@@ -26,14 +26,11 @@ fn signal_assignment(
 ) -> Result<Seq, Stop>
     ensures { Reads (spec.signal_assignment most_operators levels target reader.old) result reader.new }
 {
-    found!(reader.expect(TokenKind::Mark(Mark::LessEqual)));
-    let delay = Held::new(found!(maybe_delay(alloc, reader, levels)));
-    let waveform = found!(waveform(alloc, reader, levels));
-    ended(
-        reader,
-        SEMICOLON,
-        Seq::Signal(target, delay.into_inner(), waveform),
-    )
+    reader.expect(TokenKind::Mark(Mark::LessEqual))?;
+    let delay = Held::new(maybe_delay(alloc, reader, levels)?);
+    let waveform = waveform(alloc, reader, levels)?;
+    reader.expect(SEMICOLON)?;
+    Ok(Seq::Signal(target, delay.into_inner(), waveform))
 }
 
 #[tactic(auto, using(parse_steps::proofs::Steps::terminal_seen), unfolding(crate::specs::Parsing::variable_assignment))]
@@ -45,16 +42,17 @@ fn variable_assignment(
 ) -> Result<Seq, Stop>
     ensures { Reads (spec.variable_assignment most_operators levels target reader.old) result reader.new }
 {
-    found!(reader.expect(TokenKind::Mark(Mark::Assign)));
-    let value = found!(outermost(alloc, reader, levels));
-    ended(reader, SEMICOLON, Seq::Variable(target, value))
+    reader.expect(TokenKind::Mark(Mark::Assign))?;
+    let value = Held::new(outermost(alloc, reader, levels)?);
+    reader.expect(SEMICOLON)?;
+    Ok(Seq::Variable(target, value.into_inner()))
 }
 
 #[tactic(auto, using(parse_steps::proofs::Steps::terminal_seen), unfolding(crate::specs::Parsing::assignment))]
 fn assignment(alloc: Global, reader: &mut Reader<'_>, levels: u32) -> Result<Seq, Stop>
     ensures { Reads (spec.assignment most_operators levels reader.old) result reader.new }
 {
-    let target = found!(name(reader));
+    let target = name(reader)?;
     if reader.at(TokenKind::Mark(Mark::LessEqual)) {
         return signal_assignment(alloc, reader, levels, target);
     }
@@ -65,18 +63,20 @@ fn assignment(alloc: Global, reader: &mut Reader<'_>, levels: u32) -> Result<Seq
 fn exit_statement(alloc: Global, reader: &mut Reader<'_>, levels: u32) -> Result<Seq, Stop>
     ensures { Reads (spec.exit_statement most_operators levels reader.old) result reader.new }
 {
-    let place = found!(reader.expect(TokenKind::Word(Word::Exit)));
-    let condition = found!(condition(alloc, reader, levels));
-    ended(reader, SEMICOLON, Seq::Exit(place, condition))
+    let place = reader.expect(TokenKind::Word(Word::Exit))?;
+    let condition = Held::new(condition(alloc, reader, levels)?);
+    reader.expect(SEMICOLON)?;
+    Ok(Seq::Exit(place, condition.into_inner()))
 }
 
 #[tactic(auto, using(parse_steps::proofs::Steps::terminal_seen), unfolding(crate::specs::Parsing::next_statement))]
 fn next_statement(alloc: Global, reader: &mut Reader<'_>, levels: u32) -> Result<Seq, Stop>
     ensures { Reads (spec.next_statement most_operators levels reader.old) result reader.new }
 {
-    let place = found!(reader.expect(TokenKind::Word(Word::Next)));
-    let condition = found!(condition(alloc, reader, levels));
-    ended(reader, SEMICOLON, Seq::Next(place, condition))
+    let place = reader.expect(TokenKind::Word(Word::Next))?;
+    let condition = Held::new(condition(alloc, reader, levels)?);
+    reader.expect(SEMICOLON)?;
+    Ok(Seq::Next(place, condition.into_inner()))
 }
 
 /// The expression behind a word, where that word comes next.
@@ -92,55 +92,51 @@ fn behind(
     if !reader.at(TokenKind::Word(word)) {
         return Ok(None);
     }
-    found!(reader.expect(TokenKind::Word(word)));
-    Ok(Some(found!(outermost(alloc, reader, levels))))
+    reader.expect(TokenKind::Word(word))?;
+    Ok(Some(outermost(alloc, reader, levels)?))
 }
 
 #[tactic(auto, using(parse_steps::proofs::Steps::terminal_seen), unfolding(crate::specs::Parsing::wait_statement))]
 fn wait_statement(alloc: Global, reader: &mut Reader<'_>, levels: u32) -> Result<Seq, Stop>
     ensures { Reads (spec.wait_statement most_operators levels reader.old) result reader.new }
 {
-    let place = found!(reader.expect(TokenKind::Word(Word::Wait)));
-    let names = found!(names_on(alloc, reader, levels));
-    let condition = Held::new(found!(behind(alloc, reader, levels, Word::Until)));
-    let time = found!(behind(alloc, reader, levels, Word::For));
-    ended(
-        reader,
-        SEMICOLON,
-        Seq::Wait(place, names, condition.into_inner(), time),
-    )
+    let place = reader.expect(TokenKind::Word(Word::Wait))?;
+    let names = names_on(alloc, reader, levels)?;
+    let condition = Held::new(behind(alloc, reader, levels, Word::Until)?);
+    let time = Held::new(behind(alloc, reader, levels, Word::For)?);
+    reader.expect(SEMICOLON)?;
+    Ok(Seq::Wait(place, names, condition.into_inner(), time.into_inner()))
 }
 
 #[tactic(auto, using(parse_steps::proofs::Steps::terminal_seen), unfolding(crate::specs::Parsing::report_statement))]
 fn report_statement(reader: &mut Reader<'_>) -> Result<Seq, Stop>
     ensures { Reads (spec.report_statement reader.old) result reader.new }
 {
-    let place = found!(reader.expect(TokenKind::Word(Word::Report)));
-    let text = found!(string(reader));
-    let severity = found!(severity(reader));
-    ended(
-        reader,
-        SEMICOLON,
-        Seq::Report(place, Report { text, severity }),
-    )
+    let place = reader.expect(TokenKind::Word(Word::Report))?;
+    let text = string(reader)?;
+    let severity = severity(reader)?;
+    reader.expect(SEMICOLON)?;
+    Ok(Seq::Report(place, Report { text, severity }))
 }
 
 #[tactic(auto, using(parse_steps::proofs::Steps::terminal_seen), unfolding(crate::specs::Parsing::break_statement))]
 fn break_statement(alloc: Global, reader: &mut Reader<'_>, levels: u32) -> Result<Seq, Stop>
     ensures { Reads (spec.break_statement most_operators levels reader.old) result reader.new }
 {
-    let place = found!(reader.expect(TokenKind::Word(Word::Break)));
-    let elements = found!(break_elements(alloc, reader, levels));
-    let condition = found!(condition(alloc, reader, levels));
-    ended(reader, SEMICOLON, Seq::Break(place, elements, condition))
+    let place = reader.expect(TokenKind::Word(Word::Break))?;
+    let elements = break_elements(alloc, reader, levels)?;
+    let condition = Held::new(condition(alloc, reader, levels)?);
+    reader.expect(SEMICOLON)?;
+    Ok(Seq::Break(place, elements, condition.into_inner()))
 }
 
 #[tactic(auto, using(parse_steps::proofs::Steps::terminal_seen), unfolding(crate::specs::Parsing::null_statement))]
 fn null_statement(reader: &mut Reader<'_>) -> Result<Seq, Stop>
     ensures { Reads (spec.null_statement reader.old) result reader.new }
 {
-    let place = found!(reader.expect(TokenKind::Word(Word::Null)));
-    ended(reader, SEMICOLON, Seq::Null(place))
+    let place = reader.expect(TokenKind::Word(Word::Null))?;
+    reader.expect(SEMICOLON)?;
+    Ok(Seq::Null(place))
 }
 
 #[tactic(auto, using(parse_steps::proofs::Steps::terminal_seen), unfolding(crate::specs::Parsing::simple_statement))]
@@ -160,7 +156,7 @@ pub fn simple_statement(alloc: Global, reader: &mut Reader<'_>, levels: u32) -> 
         return wait_statement(alloc, reader, levels);
     }
     if reader.at(TokenKind::Word(Word::Assert)) {
-        return Ok(Seq::Assert(found!(assertion(alloc, reader, levels))));
+        return Ok(Seq::Assert(assertion(alloc, reader, levels)?));
     }
     if reader.at(TokenKind::Word(Word::Report)) {
         return report_statement(reader);

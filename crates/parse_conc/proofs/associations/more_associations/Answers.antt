@@ -5,8 +5,8 @@ use Rattle.parse_steps.specs.Reply.{most_operators}
 use Rattle.parse_conc.specs.Parsing.{association_turns}
 use Rattle.parse_conc.proofs.associations.more_associations.Goals as goal
 
-pub returns-in-loop-turn-2 : goal.returns-in-loop-turn-2
-returns-in-loop-turn-2 c =
+pub returns-in_err-one_association : goal.returns-in_err-one_association
+returns-in_err-one_association c =
     let e = one_more (λ n. association_turns most_operators c.args.levels n c.loop-turn.all c.loop-turn.reader) _ c.loop-turn._turn c.loop-turn-test.true c.loop-turn.invariant in
     first_of (search rules, grind (arith, common_steps))
 

@@ -5,8 +5,8 @@ use Rattle.parse_steps.specs.Reply.{most_operators}
 use Rattle.parse_conc.specs.Parsing.{equation_turns}
 use Rattle.parse_conc.proofs.equations.equations.Goals as goal
 
-pub returns-in-loop-turn : goal.returns-in-loop-turn
-returns-in-loop-turn c =
+pub returns-in_err-equation : goal.returns-in_err-equation
+returns-in_err-equation c =
     let e = one_more (λ n. equation_turns most_operators c.args.levels n c.loop-turn.all c.loop-turn.reader) _ c.loop-turn._turn c.loop-turn-test.true c.loop-turn.invariant in
     first_of (search rules, grind (arith, common_steps))
 

@@ -5,8 +5,8 @@ use Rattle.parse_steps.specs.Reply.{most_operators}
 use Rattle.parse_parts.specs.Parsing.{choice_turns}
 use Rattle.parse_parts.proofs.cases.more_choices.Goals as goal
 
-pub returns-in-loop-turn-2 : goal.returns-in-loop-turn-2
-returns-in-loop-turn-2 c =
+pub returns-in_err-one_choice : goal.returns-in_err-one_choice
+returns-in_err-one_choice c =
     let e = one_more (λ n. choice_turns most_operators c.args.levels n c.loop-turn.all c.loop-turn.reader) _ c.loop-turn._turn c.loop-turn-test.true c.loop-turn.invariant in
     first_of (search rules, grind (arith, common_steps))
 

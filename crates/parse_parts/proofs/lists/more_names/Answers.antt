@@ -4,8 +4,8 @@ use Rattle.parse_steps.proofs.Steps.{one_more}
 use Rattle.parse_parts.specs.Parsing.{name_turns}
 use Rattle.parse_parts.proofs.lists.more_names.Goals as goal
 
-pub returns-in-loop-turn-2 : goal.returns-in-loop-turn-2
-returns-in-loop-turn-2 c =
+pub returns-in_err-name : goal.returns-in_err-name
+returns-in_err-name c =
     let e = one_more (λ n. name_turns n c.loop-turn.all c.loop-turn.reader) _ c.loop-turn._turn c.loop-turn-test.true c.loop-turn.invariant in
     first_of (search rules, grind (arith, common_steps))
 

@@ -5,13 +5,13 @@ use Rattle.ams_tree.specs.Expressions.{allows}
 use Rattle.parse_expr.specs.Parsing.{factor_turns, inside}
 use Rattle.parse_expr.proofs.rules.Rules.more_factors.Goals as goal
 
-pub returns-in-Err : goal.returns-in-Err
-returns-in-Err g c =
+pub returns-in_err-take : goal.returns-in_err-take
+returns-in_err-take g c =
     let e = one_more (λ n. factor_turns (allows c.args.self.now.levels) (inside c.args.self.now.listed c.args.self.now.levels) n c.loop-turn.left c.loop-turn.reader) _ c.loop-turn._turn c.loop-turn-test.true c.loop-turn.invariant in
     first_of (search (rules, terminal_seen), grind (arith, common_steps, terminal_seen))
 
-pub returns-in-Err-factor : goal.returns-in-Err-factor
-returns-in-Err-factor g c =
+pub returns-in_err-right : goal.returns-in_err-right
+returns-in_err-right g c =
     let e = one_more (λ n. factor_turns (allows c.args.self.now.levels) (inside c.args.self.now.listed c.args.self.now.levels) n c.loop-turn.left c.loop-turn.reader) _ c.loop-turn._turn c.loop-turn-test.true c.loop-turn.invariant in
     first_of (search (rules, terminal_seen), grind (arith, common_steps, terminal_seen))
 

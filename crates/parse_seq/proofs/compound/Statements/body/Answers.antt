@@ -4,8 +4,8 @@ use Rattle.parse_steps.proofs.Steps.{one_more}
 use Rattle.parse_seq.specs.Parsing.{body_turns, at_level}
 use Rattle.parse_seq.proofs.compound.Statements.body.Goals as goal
 
-pub returns-in-loop-turn : goal.returns-in-loop-turn
-returns-in-loop-turn g c =
+pub returns-in_err-inner : goal.returns-in_err-inner
+returns-in_err-inner g c =
     let e = one_more (λ n. at_level body_turns c.args.self.now.levels n c.loop-turn.all c.loop-turn.reader) _ c.loop-turn._turn c.loop-turn-test.true c.loop-turn.invariant in
     first_of (search rules, grind (arith, common_steps))
 

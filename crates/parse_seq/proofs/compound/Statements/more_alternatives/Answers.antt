@@ -4,8 +4,8 @@ use Rattle.parse_steps.proofs.Steps.{one_more}
 use Rattle.parse_seq.specs.Parsing.{alternative_turns, at_level}
 use Rattle.parse_seq.proofs.compound.Statements.more_alternatives.Goals as goal
 
-pub returns-in-loop-turn : goal.returns-in-loop-turn
-returns-in-loop-turn g c =
+pub returns-in_err-alternative : goal.returns-in_err-alternative
+returns-in_err-alternative g c =
     let e = one_more (λ n. at_level alternative_turns c.args.self.now.levels n c.loop-turn.all c.loop-turn.reader) _ c.loop-turn._turn c.loop-turn-test.true c.loop-turn.invariant in
     first_of (search rules, grind (arith, common_steps))
 

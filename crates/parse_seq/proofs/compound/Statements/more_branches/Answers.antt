@@ -4,8 +4,8 @@ use Rattle.parse_steps.proofs.Steps.{one_more}
 use Rattle.parse_seq.specs.Parsing.{branch_turns, at_level}
 use Rattle.parse_seq.proofs.compound.Statements.more_branches.Goals as goal
 
-pub returns-in-loop-turn-2 : goal.returns-in-loop-turn-2
-returns-in-loop-turn-2 g c =
+pub returns-in_err-branch : goal.returns-in_err-branch
+returns-in_err-branch g c =
     let e = one_more (λ n. at_level branch_turns c.args.self.now.levels n c.loop-turn.all c.loop-turn.reader) _ c.loop-turn._turn c.loop-turn-test.true c.loop-turn.invariant in
     first_of (search rules, grind (arith, common_steps))
 
