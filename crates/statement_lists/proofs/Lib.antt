@@ -1,2 +1,4 @@
-pub mod Taken
+pub mod Breaking
 pub mod Chosen
+pub mod Taken
+pub mod Waving

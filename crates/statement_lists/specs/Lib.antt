@@ -1,2 +1,3 @@
-pub mod Branches
 pub mod Alternatives
+pub mod Branches
+pub mod Executed
