@@ -1,5 +1,5 @@
 -- What a process makes of the parts of a statement.
-use Rattle.std.specs.Prelude.{◌≡◌, ℕ, Bool, not, ◌&&◌, ℤ, if◌then◌else◌, List, ◌∷◌, Option, Some, None, Result, Ok, Err}
+use Rattle.std.specs.Prelude.{◌≡◌, ℕ, Bool, not, ◌&&◌, ℤ, List, ◌∷◌, Option, Some, Result, Ok}
 use Rattle.std.specs.List.{slice_set}
 use Rattle.std.specs.Option.{ForSome}
 use Rattle.message_codes.specs.Codes.{range}
@@ -10,7 +10,6 @@ use Rattle.flat_expr.specs.declared.expr.FlatExpr.{FlatExpr}
 use Rattle.flat_expr.specs.declared.subtype.Constraint.{Constraint}
 use Rattle.flat_expr.specs.Subtype.{lies_in}
 use Rattle.flat_expr.specs.declared.statement.WaveElement.{WaveElement}
-use Rattle.step_data.specs.declared.trans.Trans.{Trans}
 use Rattle.step_data.specs.declared.outcome.Refusal.{Refusal}
 use Rattle.design_meaning.specs.Readings.{Readings}
 use Rattle.expr_eval.specs.Condition.{CanEvaluate}

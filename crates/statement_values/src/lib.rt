@@ -8,7 +8,7 @@ mod element;
 mod range;
 
 pub use activation::{Activation, evaluated};
-pub use condition::holds;
+pub use condition::{holds, truth};
 pub use delay::{delay_of, is_bad_delay, limit_of, time_after, timeout_of};
 pub use element::{Subtypes, Timed, assigned_value, parts_make_assignments, transaction};
-pub use range::{LoopRange, loop_range, ranges_begin_loops};
+pub use range::{LoopRange, further_value, loop_range, ranges_begin_loops, ranges_lead};

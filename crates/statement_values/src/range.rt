@@ -1,8 +1,8 @@
 //! The ranges of for loops.
-ghost use Rattle.std.specs.Prelude.{◌≡◌};
+ghost use Rattle.std.specs.Prelude.{◌≡◌, IfSome};
 ghost use Rattle.expr_eval.specs.Condition.{CanEvaluate};
 ghost use Rattle.cycle_meaning.specs.Statements.{integer_of};
-ghost use Rattle.statement_values.specs.LoopRanges.{range_between, loop_range, RangesBeginLoops};
+ghost use Rattle.statement_values.specs.LoopRanges.{range_between, loop_range, further_value, IsOnWay, RangesBeginLoops, RangesLead};
 
 use crate::activation::{Activation, evaluated};
 use ams_value::Val;
@@ -58,6 +58,26 @@ pub fn loop_range<A: Activation>(
         Err(refusal) => Err(refusal),
     }
 }
+
+/// The value of a loop's parameter in a further turn, none behind the last one.
+pub fn further_value(direction: Direction, value: i32, last: i32) -> Option<i32>
+    requires { IsOnWay direction value last }
+    ensures value { result ≡ further_value direction value last }
+    ensures way { IfSome result (λ further. IsOnWay direction further last) }
+{
+    if value == last {
+        return None;
+    }
+    match direction {
+        Direction::To => Some(value + 1),
+        Direction::Downto => Some(value - 1),
+    }
+}
+
+/// The first value of a range is on the way to its last one. It is proved, and does nothing when it runs.
+pub fn ranges_lead()
+    ensures { RangesLead }
+{}
 
 /// A for loop begins with the first turn of its range. It is proved, and does nothing when it runs.
 #[tactic(auto, using(crate::proofs::RangeLaws::ranges))]

@@ -1,0 +1,5 @@
+pub mod Breaking
+pub mod Chosen
+pub mod Rising
+pub mod Taken
+pub mod Waving

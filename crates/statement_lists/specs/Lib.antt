@@ -1,0 +1,4 @@
+pub mod Alternatives
+pub mod Branches
+pub mod Executed
+pub mod Waves
