@@ -29,7 +29,7 @@ use Rattle.statement_lists.specs.Branches.{one_later, branch_number}
 use Rattle.statement_lists.specs.Alternatives.{names, has_others, else_number, alternative_number, numbered_body}
 use Rattle.statement_lists.proofs.Taken.{branches}
 use Rattle.statement_lists.proofs.Chosen.{alternatives}
-use Rattle.process_place.specs.Place.{Place, at, turning, at_start, tasks_at, IsIn}
+use Rattle.process_place.specs.ProcessPlace.{ProcessPlace, at, turning, at_start, tasks_at, IsIn}
 use Rattle.process_place.specs.Moves.{Coming, begins_at, turns_to, starts_again, begun_or, past_end, by_truth, coming_at, coming, Moved, goes_to, or_refused, behind_loop_at, end_of_turn_at, chosen_at, ranged_at, reported_at, asserted_at, moved, waits_at, is_refused, has_fault, Ended, after_move, nothing_left, one_counted, run_at}
 use Rattle.process_place.specs.Follows.{next_in, step_in, stop_in, ComesIn, MovesIn, EndsIn, PlacesFollow}
 
@@ -87,7 +87,7 @@ next_from here l top (inside c j b (Statement-F.Case x y) last) k [] h d =
     next_from here l top c (j + 1) (drop (j + 1) (body_in top c)) h.0 refl ∙ ap (next_in top) (ends_here here l top c j b (Statement-F.Case x y) last k d)
 next_from here l top (inside c j b _ last) k [] h d = absurd h.2
 
-next_same : (here : Context) (l : Local) (top : List Statement) (p : Place) → IsIn top p → next_of here l (tasks_at top p) ≡ next_in top (coming here l top p)
+next_same : (here : Context) (l : Local) (top : List Statement) (p : ProcessPlace) → IsIn top p → next_of here l (tasks_at top p) ≡ next_in top (coming here l top p)
 unfolding next_of
 next_same here l top (at c k) h = next_from here l top c k (drop k (body_in top c)) h refl
 next_same here l top (turning c k (Statement-F.For p left direction right body) from last) h = refl
@@ -135,7 +135,7 @@ made_same : {A B : Type 0} (top : List Statement) (l : Local) (go : B → Step) 
 made_same top l go make move (Ok a) same = same a
 made_same top l go make move (Err e) same = refl
 
-where_true : (top : List Statement) (l : Local) (t : Bool) (a b : List Task) (p q : Place) → a ≡ tasks_at top p → b ≡ tasks_at top q →
+where_true : (top : List Statement) (l : Local) (t : Bool) (a b : List Task) (p q : ProcessPlace) → a ≡ tasks_at top p → b ≡ tasks_at top q →
     goes_on (if t then a else b) l ≡ step_in top (goes_to (if t then p else q) l)
 where_true top l true a b p q ea eb = ap (λ (z : List Task). goes_on z l) ea
 where_true top l false a b p q ea eb = ap (λ (z : List Task). goes_on z l) eb
@@ -150,13 +150,13 @@ ranged_same : (top : List Statement) (l : Local) (c : Surroundings) (k p : ℕ) 
 ranged_same top l c k p left direction right body (Some range) = refl
 ranged_same top l c k p left direction right body None = refl
 
-reported_same : (here : Context) (l : Local) (top : List Statement) (s : Severity) (text : List ℕ) (p : Place) → reported here s text (tasks_at top p) l ≡ step_in top (reported_at here s text p l)
+reported_same : (here : Context) (l : Local) (top : List Statement) (s : Severity) (text : List ℕ) (p : ProcessPlace) → reported here s text (tasks_at top p) l ≡ step_in top (reported_at here s text p l)
 reported_same here l top severity.Failure text p = refl
 reported_same here l top severity.Note text p = refl
 reported_same here l top severity.Warning text p = refl
 reported_same here l top severity.Error text p = refl
 
-asserted_same : (top : List Statement) (t : Bool) (report : Step) (move : Moved) (p : Place) (l : Local) → report ≡ step_in top move → asserted t report (tasks_at top p) l ≡ step_in top (asserted_at t move p l)
+asserted_same : (top : List Statement) (t : Bool) (report : Step) (move : Moved) (p : ProcessPlace) (l : Local) → report ≡ step_in top move → asserted t report (tasks_at top p) l ≡ step_in top (asserted_at t move p l)
 asserted_same top true report move p l same = refl
 asserted_same top false report move p l same = same
 
@@ -233,7 +233,7 @@ coming_at_in here l top outermost k h = begun_in top outermost k (slice_get top 
 coming_at_in here l top (inside c j b layer last) k h =
     begun_in top (inside c j b layer last) k (slice_get (inner_body b layer) k) _ h refl (past_in here l top c j b layer last (coming_at here l top c (j + 1)) h (coming_at_in here l top c (j + 1) h.0))
 
-next_inside : (here : Context) (l : Local) (top : List Statement) (p : Place) → IsIn top p → ComesIn top (coming here l top p)
+next_inside : (here : Context) (l : Local) (top : List Statement) (p : ProcessPlace) → IsIn top p → ComesIn top (coming here l top p)
 next_inside here l top (at c k) h = coming_at_in here l top c k h
 next_inside here l top (turning c k (Statement-F.For p left direction right body) from last) h = (h.0, h.1, refl)
 next_inside here l top (turning c k _ from last) h = absurd h.2
@@ -312,17 +312,17 @@ end_of_turn_in top (inside c j b (Statement-F.If x y) last) h = end_of_turn_in t
 end_of_turn_in top (inside c j b (Statement-F.Case x y) last) h = end_of_turn_in top c h.0
 end_of_turn_in top (inside c j b _ last) h = absurd h.2
 
-one_of_in : (top : List Statement) (t : Bool) (p q : Place) → IsIn top p → IsIn top q → IsIn top (if t then p else q)
+one_of_in : (top : List Statement) (t : Bool) (p q : ProcessPlace) → IsIn top p → IsIn top q → IsIn top (if t then p else q)
 one_of_in top true p q hp hq = hp
 one_of_in top false p q hp hq = hq
 
-reported_in : (here : Context) (l : Local) (top : List Statement) (s : Severity) (text : List ℕ) (p : Place) → IsIn top p → MovesIn top (reported_at here s text p l)
+reported_in : (here : Context) (l : Local) (top : List Statement) (s : Severity) (text : List ℕ) (p : ProcessPlace) → IsIn top p → MovesIn top (reported_at here s text p l)
 reported_in here l top severity.Failure text p h = tt
 reported_in here l top severity.Note text p h = h
 reported_in here l top severity.Warning text p h = h
 reported_in here l top severity.Error text p h = h
 
-asserted_in : (top : List Statement) (t : Bool) (move : Moved) (p : Place) (l : Local) → IsIn top p → MovesIn top move → MovesIn top (asserted_at t move p l)
+asserted_in : (top : List Statement) (t : Bool) (move : Moved) (p : ProcessPlace) (l : Local) → IsIn top p → MovesIn top move → MovesIn top (asserted_at t move p l)
 asserted_in top true move p l h m = h
 asserted_in top false move p l h m = m
 
@@ -361,15 +361,15 @@ spent_same here l top (turns_to p m) = refl
 spent_same here l top starts_again = refl
 spent_same here l top (has_fault r) = refl
 
-after_same : (top : List Statement) (further : Local → List Task → Stop) (further_at : Local → Place → Ended) (move : Moved) →
-    ((l : Local) (p : Place) → IsIn top p → further l (tasks_at top p) ≡ stop_in top (further_at l p)) → MovesIn top move →
+after_same : (top : List Statement) (further : Local → List Task → Stop) (further_at : Local → ProcessPlace → Ended) (move : Moved) →
+    ((l : Local) (p : ProcessPlace) → IsIn top p → further l (tasks_at top p) ≡ stop_in top (further_at l p)) → MovesIn top move →
     after_step further (step_in top move) ≡ stop_in top (after_move further_at move)
 after_same top further further_at (goes_to p l) same h = same l p h
 after_same top further further_at (waits_at number t p l) same h = refl
 after_same top further further_at (is_refused l r) same h = refl
 
-counted_same : (here : Context) (l : Local) (top : List Statement) (further : Local → List Task → Stop) (further_at : Local → Place → Ended) (q : Coming) → process_body here ≡ top →
-    ((m : Local) (p : Place) → IsIn top p → further m (tasks_at top p) ≡ stop_in top (further_at m p)) → ComesIn top q →
+counted_same : (here : Context) (l : Local) (top : List Statement) (further : Local → List Task → Stop) (further_at : Local → ProcessPlace → Ended) (q : Coming) → process_body here ≡ top →
+    ((m : Local) (p : ProcessPlace) → IsIn top p → further m (tasks_at top p) ≡ stop_in top (further_at m p)) → ComesIn top q →
     counted further here l (next_in top q) ≡ stop_in top (one_counted further_at here l top q)
 counted_same here l top further further_at (begins_at s c k) is same h =
     ap (after_step further) (step_same here l top c k (out-Statement s) h.0 h.1)
@@ -379,7 +379,7 @@ counted_same here l top further further_at starts_again is same h =
     ap (further l) (ap statements is ∙ sym (append-nil (statements top))) ∙ same l at_start tt
 counted_same here l top further further_at (has_fault r) is same h = refl
 
-run_same : (here : Context) (top : List Statement) (n : ℕ) (l : Local) (p : Place) → process_body here ≡ top → IsIn top p → run n here l (tasks_at top p) ≡ stop_in top (run_at n here top l p)
+run_same : (here : Context) (top : List Statement) (n : ℕ) (l : Local) (p : ProcessPlace) → process_body here ≡ top → IsIn top p → run n here l (tasks_at top p) ≡ stop_in top (run_at n here top l p)
 unfolding run run_at
 run_same here top zero l p is h = ap (spent here l) (next_same here l top p h) ∙ spent_same here l top (coming here l top p)
 run_same here top (suc n) l p is h =
@@ -392,13 +392,13 @@ spent_in here l top (turns_to p m) = tt
 spent_in here l top starts_again = tt
 spent_in here l top (has_fault r) = tt
 
-after_in : (top : List Statement) (further_at : Local → Place → Ended) (move : Moved) → ((l : Local) (p : Place) → IsIn top p → EndsIn top (further_at l p)) → MovesIn top move →
+after_in : (top : List Statement) (further_at : Local → ProcessPlace → Ended) (move : Moved) → ((l : Local) (p : ProcessPlace) → IsIn top p → EndsIn top (further_at l p)) → MovesIn top move →
     EndsIn top (after_move further_at move)
 after_in top further_at (goes_to p l) stays h = stays l p h
 after_in top further_at (waits_at number t p l) stays h = h
 after_in top further_at (is_refused l r) stays h = tt
 
-counted_in : (here : Context) (l : Local) (top : List Statement) (further_at : Local → Place → Ended) (q : Coming) → ((m : Local) (p : Place) → IsIn top p → EndsIn top (further_at m p)) → ComesIn top q →
+counted_in : (here : Context) (l : Local) (top : List Statement) (further_at : Local → ProcessPlace → Ended) (q : Coming) → ((m : Local) (p : ProcessPlace) → IsIn top p → EndsIn top (further_at m p)) → ComesIn top q →
     EndsIn top (one_counted further_at here l top q)
 counted_in here l top further_at (begins_at s c k) stays h =
     after_in top further_at (moved here l top c k (out-Statement s)) stays (moved_in here l top c k (out-Statement s) h.0 h.1)
@@ -406,12 +406,12 @@ counted_in here l top further_at (turns_to p m) stays h = stays m p h
 counted_in here l top further_at starts_again stays h = stays l at_start tt
 counted_in here l top further_at (has_fault r) stays h = tt
 
-run_in : (here : Context) (top : List Statement) (n : ℕ) (l : Local) (p : Place) → process_body here ≡ top → IsIn top p → EndsIn top (run_at n here top l p)
+run_in : (here : Context) (top : List Statement) (n : ℕ) (l : Local) (p : ProcessPlace) → process_body here ≡ top → IsIn top p → EndsIn top (run_at n here top l p)
 unfolding run_at
 run_in here top zero l p is h = spent_in here l top (coming here l top p)
 run_in here top (suc n) l p is h = counted_in here l top (run_at n here top) (coming here l top p) (λ m q. run_in here top n m q is) (next_inside here l top p h)
 
-stands_there : (top : List Statement) (p : Place) → IsIn top p → StandIn top (tasks_at top p)
+stands_there : (top : List Statement) (p : ProcessPlace) → IsIn top p → StandIn top (tasks_at top p)
 stands_there top (at c k) h = inl (record { round = c; number = k; of_text = h; tasks_are = refl })
 stands_there top (turning c k (Statement-F.For p left direction right body) from last) h =
     inr (record { round = c; number = k; of_text = h.0; p = p; left = left; direction = direction; right = right; body = body; from = from; last = last; statement_is = h.1; tasks_are = refl })

@@ -6,7 +6,7 @@ use Rattle.cycle_meaning.specs.Task.{statements}
 use Rattle.cycle_meaning.specs.World.{Context, Local}
 use Rattle.cycle_meaning.specs.Processes.{body_of, process_body, run, stopped}
 use Rattle.process_laws.proofs.KeptOn.{kept_runs, kept_again, kept_from_start}
-use Rattle.process_place.specs.Place.{Place, at_start, tasks_at, IsIn}
+use Rattle.process_place.specs.ProcessPlace.{ProcessPlace, at_start, tasks_at, IsIn}
 use Rattle.process_place.specs.Moves.{waiting, run_at}
 use Rattle.process_place.specs.Follows.{stop_in, EndsIn}
 use Rattle.process_place.specs.Kept.{PlacesAreKept}
@@ -15,12 +15,12 @@ use Rattle.process_place.proofs.Following.{follows}
 body_is : (here : Context) (p : Process) → slice_get here.objects.processes here.process ≡ Some p → process_body here ≡ p.statements
 body_is here p is = ap body_of is
 
-stops_there : (here : Context) (p : Process) (budget : ℕ) (l : Local) (place : Place) (k : ℕ) (t : Option ℕ) (rest : Place) (after : Local) → slice_get here.objects.processes here.process ≡ Some p →
+stops_there : (here : Context) (p : Process) (budget : ℕ) (l : Local) (place : ProcessPlace) (k : ℕ) (t : Option ℕ) (rest : ProcessPlace) (after : Local) → slice_get here.objects.processes here.process ≡ Some p →
     IsIn p.statements place → run_at budget here p.statements l place ≡ waiting k t rest after →
     run budget here l (tasks_at p.statements place) ≡ stopped k t (tasks_at p.statements rest) after
 stops_there here p budget l place k t rest after is h ends = follows.runs here p.statements budget l place (body_is here p is) h ∙ ap (stop_in p.statements) ends
 
-ends_there : (here : Context) (p : Process) (budget : ℕ) (l : Local) (place : Place) (k : ℕ) (t : Option ℕ) (rest : Place) (after : Local) → slice_get here.objects.processes here.process ≡ Some p →
+ends_there : (here : Context) (p : Process) (budget : ℕ) (l : Local) (place : ProcessPlace) (k : ℕ) (t : Option ℕ) (rest : ProcessPlace) (after : Local) → slice_get here.objects.processes here.process ≡ Some p →
     IsIn p.statements place → run_at budget here p.statements l place ≡ waiting k t rest after → IsIn p.statements rest
 ends_there here p budget l place k t rest after is h ends = subst (EndsIn p.statements) ends (follows.runs_in_text here p.statements budget l place (body_is here p is) h)
 

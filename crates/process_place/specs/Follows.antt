@@ -7,7 +7,7 @@ use Rattle.cycle_meaning.specs.Statements.{Step, goes_on, waits, refuses, execut
 use Rattle.cycle_meaning.specs.Processes.{Next, begins, turns, returns, faulty, next_of, Stop, stopped, refused, run, process_body}
 use Rattle.design_rules.specs.Ways.{layer_at}
 use Rattle.process_laws.specs.Resumed.{Surroundings, body_in, AreOf, left_from, StandIn}
-use Rattle.process_place.specs.Place.{Place, tasks_at, IsIn}
+use Rattle.process_place.specs.ProcessPlace.{ProcessPlace, tasks_at, IsIn}
 use Rattle.process_place.specs.Moves.{Coming, begins_at, turns_to, starts_again, has_fault, coming, Moved, goes_to, waits_at, is_refused, moved, Ended, waiting, ended_refused, run_at}
 
 abbrev pub next_in : List Statement → Coming → Next
@@ -43,13 +43,13 @@ EndsIn top (ended_refused l r) = Unit {0}
 
 -- for a place in the text
 pub record PlacesFollow : Type 0 where
-  pub next : (here : Context) (l : Local) (top : List Statement) (p : Place) → IsIn top p → next_of here l (tasks_at top p) ≡ next_in top (coming here l top p)
-  pub next_in_text : (here : Context) (l : Local) (top : List Statement) (p : Place) → IsIn top p → ComesIn top (coming here l top p)
+  pub next : (here : Context) (l : Local) (top : List Statement) (p : ProcessPlace) → IsIn top p → next_of here l (tasks_at top p) ≡ next_in top (coming here l top p)
+  pub next_in_text : (here : Context) (l : Local) (top : List Statement) (p : ProcessPlace) → IsIn top p → ComesIn top (coming here l top p)
   pub statement : (here : Context) (l : Local) (top : List Statement) (c : Surroundings) (k : ℕ) (layer : Layer)
       → AreOf top c → layer_at k (body_in top c) ≡ Some layer → executed here l (left_from top c (k + 1)) layer ≡ step_in top (moved here l top c k layer)
   pub statement_in_text : (here : Context) (l : Local) (top : List Statement) (c : Surroundings) (k : ℕ) (layer : Layer)
       → AreOf top c → layer_at k (body_in top c) ≡ Some layer → MovesIn top (moved here l top c k layer)
-  pub runs : (here : Context) (top : List Statement) (n : ℕ) (l : Local) (p : Place)
+  pub runs : (here : Context) (top : List Statement) (n : ℕ) (l : Local) (p : ProcessPlace)
       → process_body here ≡ top → IsIn top p → run n here l (tasks_at top p) ≡ stop_in top (run_at n here top l p)
-  pub runs_in_text : (here : Context) (top : List Statement) (n : ℕ) (l : Local) (p : Place) → process_body here ≡ top → IsIn top p → EndsIn top (run_at n here top l p)
-  pub stands : (top : List Statement) (p : Place) → IsIn top p → StandIn top (tasks_at top p)
+  pub runs_in_text : (here : Context) (top : List Statement) (n : ℕ) (l : Local) (p : ProcessPlace) → process_body here ≡ top → IsIn top p → EndsIn top (run_at n here top l p)
+  pub stands : (top : List Statement) (p : ProcessPlace) → IsIn top p → StandIn top (tasks_at top p)

@@ -1,4 +1,4 @@
 pub mod Follows
 pub mod Kept
 pub mod Moves
-pub mod Place
+pub mod ProcessPlace

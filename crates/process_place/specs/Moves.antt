@@ -21,14 +21,14 @@ use Rattle.statement_values.specs.declared.range.LoopRange.{LoopRange}
 use Rattle.statement_values.specs.LoopRanges.{loop_range}
 use Rattle.statement_lists.specs.Branches.{branch_number}
 use Rattle.statement_lists.specs.Alternatives.{alternative_number}
-use Rattle.process_place.specs.Place.{Place, at, turning, at_start}
+use Rattle.process_place.specs.ProcessPlace.{ProcessPlace, at, turning, at_start}
 
 -- ---- what counts next
 
 -- the statement with a number begins; a turn of a loop begins; the process returns to its first statement; or a condition of a loop has a fault
 pub data Coming : Type 0 where
   begins_at : Statement → Surroundings → ℕ → Coming
-  turns_to : Place → Local → Coming
+  turns_to : ProcessPlace → Local → Coming
   starts_again : Coming
   has_fault : Refusal → Coming
 
@@ -59,7 +59,7 @@ first_turned l c k (Statement-F.For p left direction right body) from last =
     turns_to (at (inside c k 0 (Statement-F.For p left direction right body) last) 0) (with_parameter p from l)
 first_turned l c k _ from last = starts_again
 
-abbrev pub coming : Context → Local → List Statement → Place → Coming
+abbrev pub coming : Context → Local → List Statement → ProcessPlace → Coming
 coming here l top (at c k) = coming_at here l top c k
 coming here l top (turning c k layer from last) = first_turned l c k layer from last
 
@@ -67,8 +67,8 @@ coming here l top (turning c k layer from last) = first_turned l c k layer from 
 
 -- the process goes on at a place; it waits, with the place behind the wait; or a refusal
 pub data Moved : Type 0 where
-  goes_to : Place → Local → Moved
-  waits_at : ℕ → Option ℕ → Place → Local → Moved
+  goes_to : ProcessPlace → Local → Moved
+  waits_at : ℕ → Option ℕ → ProcessPlace → Local → Moved
   is_refused : Local → Refusal → Moved
 
 abbrev pub or_refused : {A : Type 0} → Local → (A → Moved) → Result A Refusal → Moved
@@ -76,33 +76,33 @@ or_refused l go (Ok a) = go a
 or_refused l go (Err r) = is_refused l r
 
 -- behind the innermost loop; behind the whole text where there is none
-abbrev pub behind_loop_at : List Statement → Surroundings → Place
+abbrev pub behind_loop_at : List Statement → Surroundings → ProcessPlace
 behind_loop_at top outermost = at outermost (length top)
 behind_loop_at top (inside c j b (Statement-F.Loop condition body) last) = at c (j + 1)
 behind_loop_at top (inside c j b (Statement-F.For p left direction right body) last) = at c (j + 1)
 behind_loop_at top (inside c j b _ last) = behind_loop_at top c
 
 -- at the end of the innermost loop's body
-abbrev pub end_of_turn_at : List Statement → Surroundings → Place
+abbrev pub end_of_turn_at : List Statement → Surroundings → ProcessPlace
 end_of_turn_at top outermost = at outermost (length top)
 end_of_turn_at top (inside c j b (Statement-F.Loop condition body) last) = at (inside c j b (Statement-F.Loop condition body) last) (length body)
 end_of_turn_at top (inside c j b (Statement-F.For p left direction right body) last) =
     at (inside c j b (Statement-F.For p left direction right body) last) (length body)
 end_of_turn_at top (inside c j b _ last) = end_of_turn_at top c
 
-abbrev pub chosen_at : Surroundings → ℕ → Layer → Option ℕ → Place
+abbrev pub chosen_at : Surroundings → ℕ → Layer → Option ℕ → ProcessPlace
 chosen_at c k layer (Some b) = at (inside c k b layer (pos 0)) 0
 chosen_at c k layer None = at c (k + 1)
 
-abbrev pub ranged_at : Surroundings → ℕ → Layer → Option LoopRange → Place
+abbrev pub ranged_at : Surroundings → ℕ → Layer → Option LoopRange → ProcessPlace
 ranged_at c k layer (Some range) = turning c k layer range.first range.last
 ranged_at c k layer None = at c (k + 1)
 
-abbrev pub reported_at : Context → Severity → List ℕ → Place → Local → Moved
+abbrev pub reported_at : Context → Severity → List ℕ → ProcessPlace → Local → Moved
 reported_at here severity.Failure text p l = is_refused (with_report here (number_of_severity severity.Failure) text l) (refusal here failure)
 reported_at here s text p l = goes_to p (with_report here (number_of_severity s) text l)
 
-abbrev pub asserted_at : Bool → Moved → Place → Local → Moved
+abbrev pub asserted_at : Bool → Moved → ProcessPlace → Local → Moved
 asserted_at true report p l = goes_to p l
 asserted_at false report p l = report
 
@@ -133,10 +133,10 @@ moved here l top c k Statement-F.Null = goes_to (at c (k + 1)) l
 -- ---- the run
 
 pub data Ended : Type 0 where
-  waiting : ℕ → Option ℕ → Place → Local → Ended
+  waiting : ℕ → Option ℕ → ProcessPlace → Local → Ended
   ended_refused : Local → Refusal → Ended
 
-abbrev pub after_move : (Local → Place → Ended) → Moved → Ended
+abbrev pub after_move : (Local → ProcessPlace → Ended) → Moved → Ended
 after_move further (goes_to p l) = further l p
 after_move further (waits_at number t p l) = waiting number t p l
 after_move further (is_refused l r) = ended_refused l r
@@ -145,13 +145,13 @@ abbrev pub nothing_left : Context → Local → Coming → Ended
 nothing_left here l (has_fault r) = ended_refused l r
 nothing_left here l _ = ended_refused l (refusal here process_budget)
 
-abbrev pub one_counted : (Local → Place → Ended) → Context → Local → List Statement → Coming → Ended
+abbrev pub one_counted : (Local → ProcessPlace → Ended) → Context → Local → List Statement → Coming → Ended
 one_counted further here l top (begins_at s c k) = after_move further (moved here l top c k (out-Statement s))
 one_counted further here l top (turns_to p turned) = further turned p
 one_counted further here l top starts_again = further l at_start
 one_counted further here l top (has_fault r) = ended_refused l r
 
 -- a process with this text and so many statements left in this activation
-unfoldable pub run_at : ℕ → Context → List Statement → Local → Place → Ended
+unfoldable pub run_at : ℕ → Context → List Statement → Local → ProcessPlace → Ended
 run_at zero here top l p = nothing_left here l (coming here l top p)
 run_at (suc n) here top l p = one_counted (run_at n here top) here l top (coming here l top p)
