@@ -6,6 +6,7 @@ pub mod Gathering
 pub mod Machine
 pub mod Making
 pub mod Searching
+pub mod Siding
 pub mod Solving
 pub mod Standing
 pub mod Starting

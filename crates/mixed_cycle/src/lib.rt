@@ -5,5 +5,7 @@ pub mod choose;
 pub mod cycle;
 pub mod decide;
 pub mod machine;
+pub mod probe;
 pub mod solve;
 pub mod start;
+pub mod trial;
