@@ -3,6 +3,7 @@ pub mod Cycling
 pub mod Decided
 pub mod Deciding
 pub mod Gathering
+pub mod Landing
 pub mod Machine
 pub mod Making
 pub mod Searching
