@@ -6,8 +6,10 @@ pub mod Gathering
 pub mod Landing
 pub mod Machine
 pub mod Making
+pub mod Proceeding
 pub mod Searching
 pub mod Siding
 pub mod Solving
 pub mod Standing
 pub mod Starting
+pub mod Trying

@@ -6,6 +6,7 @@ pub mod cycle;
 pub mod decide;
 pub mod machine;
 pub mod probe;
+pub mod proceed;
 pub mod side;
 pub mod solve;
 pub mod start;
