@@ -8,6 +8,7 @@ pub mod Machine
 pub mod Making
 pub mod Proceeding
 pub mod Searching
+pub mod Settling
 pub mod Siding
 pub mod Solving
 pub mod Standing

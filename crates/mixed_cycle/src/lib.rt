@@ -7,6 +7,7 @@ pub mod decide;
 pub mod machine;
 pub mod probe;
 pub mod proceed;
+pub mod settle;
 pub mod side;
 pub mod solve;
 pub mod start;

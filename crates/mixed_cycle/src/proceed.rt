@@ -49,7 +49,7 @@ impl<D: Design, S: Stepper<D>, K: Kernel<D>> Machine<D, S, K> {
     }
 
     /// The next work, where all decisions are made.
-    fn work(&mut self, out: &mut EventList) -> Result<Moved, AllocError>
+    pub(crate) fn work(&mut self, out: &mut EventList) -> Result<Moved, AllocError>
         requires sound { Sound (D.system 0) S.part K.state self.old }
         requires awaited { self.old.awaited ≡ Ready }
         requires ready { IsReady (next_of (D.system 0) (held_of (digital_at (D.system 0) (K.state self.old.kernel)) self.old.place)) }
