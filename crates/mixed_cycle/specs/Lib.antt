@@ -1,3 +1,4 @@
+pub mod Attempting
 pub mod Choosing
 pub mod Cycling
 pub mod Decided
@@ -14,3 +15,4 @@ pub mod Solving
 pub mod Standing
 pub mod Starting
 pub mod Trying
+pub mod Using

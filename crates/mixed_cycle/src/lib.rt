@@ -1,6 +1,7 @@
 //! The mixed cycle: an engine over any solver and any kernel of one design, move by move.
 #![tactic(auto)]
 
+pub mod attempted;
 pub mod choose;
 pub mod cycle;
 pub mod decide;
