@@ -1,53 +1,38 @@
 -- An attempt is used, an own one or one that was found.
-use Rattle.std.specs.Prelude.{◌≡◌, ℕ, ◌+◌, ◌-◌, ◌≤◌, ◌<◌, ◌==◌, ◌&&◌, ◌||◌, Bool, true, false, not, cond, nat_le, nat_lt, max, ℤ, List, [], ◌++◌, ◌∷◌, length, IsErr, Option, Some, None, Result, Ok, Err, refl}
-use Rattle.std.specs.declared.alloc.AllocError.{AllocError}
-use Rattle.std.proofs.Common.{ap, sym, subst, ◌∙◌, append-nil, arith}
+use Rattle.std.specs.Prelude.{◌≡◌, ℕ, ◌+◌, ◌-◌, ◌≤◌, ◌<◌, ◌&&◌, Bool, true, false, cond, nat_le, nat_lt, max, ℤ, List, [], length, Option, Some, None, refl}
+use Rattle.std.proofs.Common.{ap, sym, subst, ◌∙◌, arith}
 use Rattle.std.proofs.lemmas.Bool.Decides.{nat_tests}
 use Rattle.ams_value.specs.declared.val.Val.{Val}
-use Rattle.step_data.specs.declared.breaks.ThresholdState.{ThresholdState}
-use Rattle.step_data.specs.declared.event.Event.{Event}
 use Rattle.step_data.specs.declared.outcome.Kind.{Kind}
 use Rattle.step_data.specs.declared.outcome.Kind.TheVariants.{Accepted, Rejected, Failed}
-use Rattle.step_data.specs.declared.outcome.Options.{Options}
 use Rattle.step_data.specs.declared.outcome.ChooseKind.TheVariants.{Timed}
 use Rattle.step_data.specs.declared.tip.Attempt.{Attempt}
 use Rattle.step_data.specs.declared.tip.Tip.{Tip}
 use Rattle.step_data.specs.Steps.{next, next_by, is_accepted, is_failed, end_of}
 use Rattle.step_model.specs.declared.kernel_stage.KernelStage.TheVariants.{Going}
-use Rattle.step_model.specs.Answers.{IsStep, CanStep}
-use Rattle.step_model.specs.Counts.{more}
-use Rattle.step_model.specs.Kernel.{KernelState, AddsFront}
+use Rattle.step_model.specs.Answers.{IsStep}
+use Rattle.step_model.specs.Kernel.{KernelState}
 use Rattle.step_model.specs.StepLaws.{HasStep, AttemptFrom, attempt_from, allowed_step}
 use Rattle.step_model.specs.System.{System, Digital, attempt}
-use Rattle.lockstep_model.specs.Crossing.{Bounds, differs, is_near}
+use Rattle.lockstep_model.specs.Crossing.{differs, is_near}
 use Rattle.lockstep_model.specs.RunStates.{RunState}
 use Rattle.lockstep_model.specs.Lockstep as l
-use Rattle.lockstep_model.specs.Walk as w
-use Rattle.lockstep_model.specs.Works.{Tried, Run}
-use Rattle.lockstep_model.specs.declared.moves.Moved.{Moved}
-use Rattle.lockstep_model.specs.declared.moves.Moved.TheVariants as says
-use Rattle.lockstep_model.specs.declared.moves.Ask.TheVariants as asks
-use Rattle.above_events.specs.Locating.{with_point}
 use Rattle.cycle_machine.specs.Held as h
 use Rattle.cycle_machine.specs.Held.{Held, Makes, Step, next_of, rest_of}
-use Rattle.cycle_machine.specs.Moves.{Moment, Moving, IsTried, walk_of, walk_with, own_by, found_by, led, proceed}
+use Rattle.cycle_machine.specs.Moves.{IsTried}
 use Rattle.run_place.specs.declared.place.Place.{Place}
 use Rattle.run_place.specs.declared.place.Stage.{Stage}
 use Rattle.run_place.specs.declared.place.Stage.TheVariants as stages
 use Rattle.run_place.specs.Places.{stage_of, state_of, held_of}
 use Rattle.run_place.specs.Giving.{chosen_of, olds_of}
-use Rattle.run_place.specs.Decisions as c
 use Rattle.run_place.specs.Outcomes.{too_small}
-use Rattle.mixed_cycle.specs.declared.machine.Awaited.{Awaited}
-use Rattle.mixed_cycle.specs.declared.machine.Awaited.TheVariants.{Ready, Looking, Settling}
+use Rattle.mixed_cycle.specs.declared.machine.Awaited.TheVariants.{Looking}
 use Rattle.mixed_cycle.specs.declared.machine.Machine.{Machine}
 use Rattle.mixed_cycle.specs.Standing.{Fits, IsPhase, StandsBy, Stands, PlaceFits, pending, digital_at}
 use Rattle.mixed_cycle.specs.Deciding.{digital_going}
-use Rattle.mixed_cycle.specs.Machine.{Sound, HasRoom, moment_of, awaited_of, asked_of}
-use Rattle.mixed_cycle.specs.Making.{Performs, still_sound, ready_ahead}
-use Rattle.mixed_cycle.specs.Searching.{can_step}
+use Rattle.mixed_cycle.specs.Machine.{Sound}
 use Rattle.mixed_cycle.specs.Trying.{TriedNext, tried_ahead}
-use Rattle.mixed_cycle.specs.Using.{gives_at, crosses_at, given_at, ended_by, crossing_left, passed_left, passed_events, used_left, used_events}
+use Rattle.mixed_cycle.specs.Using.{gives_at, crosses_at, given_at, ended_by, passed_events, used_left, used_events}
 
 -- what is known where an attempt is used
 pub record Uses {D S K : Type 0} (sys : System) (part : S → ℕ) (state : K → KernelState) (m : Machine D S K) (a : Attempt) (bs : List ℕ) (is_chosen gives crosses : Bool) : Type 0 where
@@ -163,10 +148,10 @@ passed-held : (failed : Bool) (sys : System) (d : Digital) (gives is_chosen : Bo
 passed-held true sys d gives is_chosen bs p a failed e gave branches = failed-held a.kind sys d gives is_chosen (nat_lt p.time a.end) bs p a failed gave
 passed-held false sys d gives is_chosen bs p a failed e gave branches = further-held sys d gives is_chosen bs p a e gave branches
 
-used-held : (crosses : Bool) (sys : System) (d : Digital) (gives is_chosen : Bool) (bs : List ℕ) (xres : ℕ) (p : Place) (a : Attempt) → p.stage ≡ stages.InPhase → gives ≡ l.gives_point (state_of d p) a → chosen_of is_chosen bs (olds_of p) ≡ l.step_branches sys (state_of d p) →
+pub used_held : (crosses : Bool) (sys : System) (d : Digital) (gives is_chosen : Bool) (bs : List ℕ) (xres : ℕ) (p : Place) (a : Attempt) → p.stage ≡ stages.InPhase → gives ≡ l.gives_point (state_of d p) a → chosen_of is_chosen bs (olds_of p) ≡ l.step_branches sys (state_of d p) →
     held_of d (used_left crosses gives a xres is_chosen bs (counted p)) ≡ h.behind_by (l.attempt_end crosses (is_failed a.kind)) sys p.cycles_left (p.tries_left - 1) (state_of d p) a
-used-held true sys d gives is_chosen bs xres p a e gave branches = refl
-used-held false sys d gives is_chosen bs xres p a e gave branches = passed-held (is_failed a.kind) sys d gives is_chosen bs p a refl e gave branches
+used_held true sys d gives is_chosen bs xres p a e gave branches = refl
+used_held false sys d gives is_chosen bs xres p a e gave branches = passed-held (is_failed a.kind) sys d gives is_chosen bs p a refl e gave branches
 
 -- ---- what it gives
 
@@ -175,13 +160,13 @@ passed-gives : (sys : System) (d : Digital) (gives is_chosen : Bool) (bs : List 
 passed-gives sys d true is_chosen bs p a branches = ap (λ (ys : List ℕ). l.point_events a.end 0 a.x ys (olds_of p)) branches
 passed-gives sys d false is_chosen bs p a branches = refl
 
-used-gives : (crosses : Bool) (sys : System) (d : Digital) (gives is_chosen : Bool) (bs : List ℕ) (xres : ℕ) (p : Place) (a : Attempt) → xres ≡ sys.options.xres → chosen_of is_chosen bs (olds_of p) ≡ l.step_branches sys (state_of d p) →
+pub used_gives : (crosses : Bool) (sys : System) (d : Digital) (gives is_chosen : Bool) (bs : List ℕ) (xres : ℕ) (p : Place) (a : Attempt) → xres ≡ sys.options.xres → chosen_of is_chosen bs (olds_of p) ≡ l.step_branches sys (state_of d p) →
     used_events crosses gives a xres is_chosen bs (counted p) ≡ cond crosses (l.bound_events sys (state_of d p) (l.attempt_bounds (state_of d p) a)) (cond gives (l.point_events a.end 0 a.x (l.step_branches sys (state_of d p)) (olds_of p)) [])
-used-gives true sys d gives is_chosen bs xres p a xres_is branches =
+used_gives true sys d gives is_chosen bs xres p a xres_is branches =
     let q = state_of d p in
     ap (λ (z : ℕ). used_events true gives a z is_chosen bs (counted p)) xres_is
     ∙ ap (λ (ys : List ℕ). cond (is_near sys.options.xres (l.attempt_bounds q a)) (l.point_events a.end 0 a.x ys (olds_of p)) []) branches
-used-gives false sys d gives is_chosen bs xres p a xres_is branches = passed-gives sys d gives is_chosen bs p a branches
+used_gives false sys d gives is_chosen bs xres p a xres_is branches = passed-gives sys d gives is_chosen bs p a branches
 
 -- ---- what is true behind it
 
@@ -223,9 +208,9 @@ until-stop : (next : Option ℕ) (stop : ℕ) → l.until_of next stop ≤ stop
 until-stop (Some n) stop = omega arith
 until-stop None stop = omega arith
 
-used-stands : (crosses : Bool) (sys : System) (k : KernelState) (frame : List Val) (cycles : ℕ) (gives is_chosen : Bool) (bs : List ℕ) (xres : ℕ) (p : Place) (a : Attempt) → PlaceFits sys p → Attempts sys k frame cycles p a → xres ≡ sys.options.xres → length bs ≡ sys.choices → length a.x ≡ sys.unknowns → (crosses ≡ true → max p.time p.tip.t < a.end) →
+pub used_stands : (crosses : Bool) (sys : System) (k : KernelState) (frame : List Val) (cycles : ℕ) (gives is_chosen : Bool) (bs : List ℕ) (xres : ℕ) (p : Place) (a : Attempt) → PlaceFits sys p → Attempts sys k frame cycles p a → xres ≡ sys.options.xres → length bs ≡ sys.choices → length a.x ≡ sys.unknowns → (crosses ≡ true → max p.time p.tip.t < a.end) →
     Stands sys k frame cycles (used_left crosses gives a xres is_chosen bs (counted p))
-used-stands true sys k frame cycles gives is_chosen bs xres p a f t xres_is room fits order =
+used_stands true sys k frame cycles gives is_chosen bs xres p a f t xres_is room fits order =
     let few = t.few in
     let until = t.until in
     let after : max p.time p.tip.t < a.end = order refl in
@@ -236,7 +221,7 @@ used-stands true sys k frame cycles gives is_chosen bs xres p a f t xres_is room
       stands = record { goes = t.phase.goes; distance = xres_is; tip_before = omega arith; time_before = omega arith; order = after; until = until; step = record { least = omega arith; most = omega arith } };
       few = omega arith;
     }
-used-stands false sys k frame cycles gives is_chosen bs xres p a f t xres_is room fits order =
+used_stands false sys k frame cycles gives is_chosen bs xres p a f t xres_is room fits order =
     let until = l.until sys (state_of k.digital p) in
     let stop = until-stop (sys.next_time k.digital) sys.options.stop in
     let tip : TipFits sys until (next p.tip a).t (next p.tip a).x =

@@ -15,4 +15,5 @@ pub mod Solving
 pub mod Standing
 pub mod Starting
 pub mod Trying
+pub mod Used
 pub mod Using

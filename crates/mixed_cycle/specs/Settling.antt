@@ -1,5 +1,5 @@
 -- The reply of a consume.
-use Rattle.std.specs.Prelude.{◌≡◌, ℕ, zero, suc, ◌-◌, ◌&&◌, Bool, true, false, not, cond, ℤ, List, [], ◌++◌, Result, Ok, Err, refl}
+use Rattle.std.specs.Prelude.{◌≡◌, ℕ, zero, suc, ◌&&◌, Bool, true, false, not, cond, ℤ, List, [], Result, Ok, Err, refl}
 use Rattle.std.specs.declared.alloc.AllocError.{AllocError}
 use Rattle.std.proofs.Common.{ap, sym, subst, ◌∙◌, append-nil}
 use Rattle.step_data.specs.declared.event.Event.{Event}
@@ -24,7 +24,7 @@ use Rattle.cycle_machine.specs.Moves.{Moment, Moving, is_over, made_ready, proce
 use Rattle.run_place.specs.declared.place.Place.{Place}
 use Rattle.run_place.specs.declared.place.Stage.{Stage}
 use Rattle.run_place.specs.declared.place.Stage.TheVariants as stages
-use Rattle.run_place.specs.Places.{stage_of, state_of, held_of}
+use Rattle.run_place.specs.Places.{stage_of, state_of}
 use Rattle.mixed_cycle.specs.declared.machine.Awaited.{Awaited}
 use Rattle.mixed_cycle.specs.declared.machine.Awaited.TheVariants.{Ready, Settling}
 use Rattle.mixed_cycle.specs.declared.machine.Machine.{Machine}

@@ -1,5 +1,4 @@
 use Rattle.mixed_cycle.specs.Proceeding.{is_ready}
-use Rattle.mixed_cycle.specs.Settling.{settle_begins, settle_goes, settled_sound}
 use Rattle.mixed_cycle.proofs.machine.Machine.settle.Goals as goal
 
 pub work-requires-clause-ready : goal.work-requires-clause-ready
