@@ -7,6 +7,7 @@ pub mod Gathering
 pub mod Landing
 pub mod Machine
 pub mod Making
+pub mod Moving
 pub mod Proceeding
 pub mod Searching
 pub mod Settling

@@ -5,6 +5,7 @@ pub mod attempted;
 pub mod choose;
 pub mod cycle;
 pub mod decide;
+pub mod drive;
 pub mod found;
 pub mod machine;
 pub mod own;
