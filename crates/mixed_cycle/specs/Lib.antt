@@ -9,6 +9,7 @@ pub mod Machine
 pub mod Making
 pub mod Moving
 pub mod Proceeding
+pub mod Running
 pub mod Searching
 pub mod Settling
 pub mod Siding

@@ -1,24 +1,21 @@
 -- A move, by the reply to the last ask.
-use Rattle.std.specs.Prelude.{◌≡◌, ◌≢◌, ℕ, Bool, true, false, List, [], ◌++◌, length, Result, Ok, Err, refl}
+use Rattle.std.specs.Prelude.{◌≡◌, ℕ, Bool, List, [], length, Result, Err, refl}
 use Rattle.std.specs.declared.alloc.AllocError.{AllocError}
 use Rattle.std.proofs.Common.{ap, sym, subst, ◌∙◌, append-nil}
-use Rattle.ams_value.specs.declared.val.Val.{Val}
 use Rattle.step_data.specs.declared.event.Event.{Event}
 use Rattle.step_data.specs.declared.tip.Attempt.{Attempt}
-use Rattle.step_data.specs.declared.tip.Tip.{Tip}
-use Rattle.step_model.specs.Kernel.{KernelState, AddsFront}
+use Rattle.step_model.specs.Kernel.{KernelState}
 use Rattle.step_model.specs.System.{System, attempt}
-use Rattle.lockstep_model.specs.Walk as w
 use Rattle.lockstep_model.specs.Walk.{Reply, NoReply, Here, Nothing, Consumed, Fits, was_consumed}
 use Rattle.lockstep_model.specs.declared.moves.Moved.{Moved}
 use Rattle.cycle_machine.specs.Held.{next_of}
-use Rattle.cycle_machine.specs.Moves.{Moment, AheadOf, IsAhead, IsTried, walk_of, own_by, found_by, proceed, settle, moved_at, moving}
+use Rattle.cycle_machine.specs.Moves.{AheadOf, IsAhead, IsTried, walk_of, own_by, found_by, proceed, settle, moved_at, moving}
 use Rattle.run_place.specs.Places.{held_of}
 use Rattle.mixed_cycle.specs.declared.machine.Awaited.{Awaited}
-use Rattle.mixed_cycle.specs.declared.machine.Awaited.TheVariants.{Ready, Looking, Settling, Broken}
+use Rattle.mixed_cycle.specs.declared.machine.Awaited.TheVariants.{Ready, Looking, Settling}
 use Rattle.mixed_cycle.specs.declared.machine.Machine.{Machine}
 use Rattle.mixed_cycle.specs.Standing.{digital_at}
-use Rattle.mixed_cycle.specs.Machine.{Sound, moment_of, awaited_of, asked_of}
+use Rattle.mixed_cycle.specs.Machine.{moment_of, awaited_of, asked_of}
 use Rattle.mixed_cycle.specs.Making.{Performs}
 
 -- a found attempt has the values of so many unknowns

@@ -240,8 +240,8 @@ led-by sys part count state made m out out' out'' events (Err fault) v gave done
     }
 
 -- a front of the first events is one of them all
-front-led : (out out' events later : List Event) → AddsFront out out' events → AddsFront out out' (events ++ later)
-front-led out out' events later f =
+pub front_led : (out out' events later : List Event) → AddsFront out out' events → AddsFront out out' (events ++ later)
+front_led out out' events later f =
     record {
       front = f.front;
       is_front = (f.is_front.0 ++ later, sym (append_assoc f.front f.is_front.0 later) ∙ ap (λ (y : List Event). y ++ later) f.is_front.1);
@@ -331,6 +331,6 @@ found_lost sys part count state m m' a bs is_chosen gives crosses out out' (Err 
     subst (λ (x : Step). Performs sys part count state (count m.stepper) m' out out' (Err fault) (found_by x sys M)) (sym (tried-next sys part state m a bs is_chosen gives crosses u))
     (elim (crosses || is_failed a.kind) as
     (λ b. Performs sys part count state (count m.stepper) m' out out' (Err fault) (cond b (led events (proceed sys (record M { held = H }))) (record { moment = record M { held = H; awaited = w.Settling false (next M.tip a) }; says = says.Ask asks.Consume; events = events; computed = 0 }))) [
-      | true ↦ record { sound = tt; walk = tt; ahead = tt; says_is = tt; events = tt; count_is = tt; front = front-led out out' events (proceed sys (record M { held = H })).events front }
+      | true ↦ record { sound = tt; walk = tt; ahead = tt; says_is = tt; events = tt; count_is = tt; front = front_led out out' events (proceed sys (record M { held = H })).events front }
       | false ↦ record { sound = tt; walk = tt; ahead = tt; says_is = tt; events = tt; count_is = tt; front = front }
     ])

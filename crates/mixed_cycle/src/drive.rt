@@ -1,6 +1,6 @@
 //! A move, by the reply to the last ask.
 
-ghost use Rattle.std.specs.Prelude.{◌≡◌, ◌≢◌};
+ghost use Rattle.std.specs.Prelude.{◌≡◌, ◌≢◌, IsErr, OnOk};
 ghost use Rattle.step_model.specs.System.{attempt as attempt_of};
 ghost use Rattle.lockstep_model.specs.Walk.{Fits, reply_of, was_consumed};
 ghost use Rattle.cycle_machine.specs.Moves.{IsAhead, moving, walk_of};
@@ -50,7 +50,9 @@ impl<D: Design, S: Stepper<D>, K: Kernel<D>> Machine<D, S, K> {
         requires ahead { IsAhead (D.system 0) (moment_of (D.system 0) K.state self.old) }
         requires fits { Fits (attempt_of (D.system 0)) (walk_of (D.system 0) (moment_of (D.system 0) K.state self.old)) (moment_of (D.system 0) K.state self.old).awaited (reply_of answer.now) }
         requires room { FitsIn (D.system 0).unknowns (reply_of answer.now) }
-        ensures { Performs (D.system 0) S.part S.count K.state (S.count self.old.stepper) self.new out.old out.new result (moving (D.system 0) (moment_of (D.system 0) K.state self.old) (reply_of answer.now)) }
+        ensures performs { Performs (D.system 0) S.part S.count K.state (S.count self.old.stepper) self.new out.old out.new result (moving (D.system 0) (moment_of (D.system 0) K.state self.old) (reply_of answer.now)) }
+        ensures alive { OnOk result (self.old.awaited ≢ Broken) }
+        ensures dead { self.old.awaited ≡ Broken → IsErr result × (self.new ≡ self.old) × (out.new ≡ out.old) }
     {
         match self.awaited {
             Awaited::Ready => self.proceed(out),

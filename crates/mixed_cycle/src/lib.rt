@@ -6,6 +6,7 @@ pub mod choose;
 pub mod cycle;
 pub mod decide;
 pub mod drive;
+pub mod engine;
 pub mod found;
 pub mod machine;
 pub mod own;
