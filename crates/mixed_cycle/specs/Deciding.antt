@@ -28,8 +28,8 @@ began-tip : (b : Bool) (p : Place) → (c.began b p).tip ≡ p.tip
 began-tip b p =
     elim (p.cycles_left == 0) as (λ t. (cond t (c.end_with 75 p) (record p { stage = stages.InDelta b; cycles_left = p.cycles_left - 1 })).tip ≡ p.tip) [ true ↦ refl | false ↦ refl ]
 
-arrived-tip : (next : Option ℕ) (p : Place) → (c.arrived_at next p).tip ≡ p.tip
-arrived-tip next p =
+pub arrived_tip : (next : Option ℕ) (p : Place) → (c.arrived_at next p).tip ≡ p.tip
+arrived_tip next p =
     elim (stands next p.time) as (λ t. (cond t (c.began false p) (c.reached p)).tip ≡ p.tip) [ true ↦ began-tip false p | false ↦ refl ]
 
 deeper-tip : (b : Bool) (p : Place) → (c.deeper_at b p).tip ≡ p.tip
@@ -54,7 +54,7 @@ delta-tip b frame p = elim (c.needs_at p frame) as (λ t. (cond t p (record p { 
 phase-tip : (next : Option ℕ) (stop : ℕ) (p : Place) → (c.phase_at next stop p).tip ≡ p.tip
 phase-tip next stop p =
     elim (p.tip.t == until_of next stop) as (λ t. (cond t (c.arrived_at next (c.at_tip_at (until_of next stop) p)) (c.tried_at p)).tip ≡ p.tip) [
-      | true ↦ arrived-tip next (c.at_tip_at (until_of next stop) p)
+      | true ↦ arrived_tip next (c.at_tip_at (until_of next stop) p)
       | false ↦ elim (p.tries_left == 0) as (λ t. (cond t (c.end_with 76 p) p).tip ≡ p.tip) [ true ↦ refl | false ↦ refl ]
     ]
 

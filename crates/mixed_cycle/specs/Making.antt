@@ -65,8 +65,8 @@ three_decide sys part count state a b c d x y z =
     }
 
 -- no reply is awaited, so nothing has to come next
-ready-ahead : {D S K : Type 0} (sys : System) (state : K → KernelState) (m : Machine D S K) → m.awaited ≡ Ready → IsAhead sys (moment_of sys state m)
-ready-ahead sys state m e =
+pub ready_ahead : {D S K : Type 0} (sys : System) (state : K → KernelState) (m : Machine D S K) → m.awaited ≡ Ready → IsAhead sys (moment_of sys state m)
+ready_ahead sys state m e =
     subst (λ (a : Awaited). IsAhead sys (record (moment_of sys state m) { awaited = awaited_of a m.place.tip; tip = asked_of a m.asked m.place.tip })) (sym e) tt
 
 -- a work that is no attempt was made
@@ -88,7 +88,7 @@ work_done sys part count state m m' out out' q kind events renews standing h sai
           ∙ ap (λ (f : List Val). walk_with (rest_of sys h) (record (moment_of sys state m') { awaited = w.Ready; tip = standing.tip; frame = f })) frame
           ∙ ap (λ (n : ℕ). walk_with (rest_of sys h) (record (moment_of sys state m') { awaited = w.Ready; tip = standing.tip; frame = standing.frame; own = n })) own
           ∙ ap (λ (n : ℕ). walk_with (rest_of sys h) (record (moment_of sys state m') { awaited = w.Ready; tip = standing.tip; frame = standing.frame; own = m.own; cycles = n })) cycles;
-      ahead = ready-ahead sys state m' awaits;
+      ahead = ready_ahead sys state m' awaits;
       says_is = saying;
       events = gave;
       count_is = made;

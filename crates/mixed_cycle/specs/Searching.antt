@@ -1,5 +1,6 @@
 -- A probe of a crossing.
-use Rattle.std.specs.Prelude.{◌≡◌, ℕ, zero, suc, ◌+◌, ◌-◌, ◌≤◌, ◌<◌, Bool, true, false, cond, ℤ, List, [], ◌++◌, length, Result, Ok, Err, refl}
+use Rattle.std.specs.Prelude.{◌≡◌, ℕ, zero, suc, ◌+◌, ◌-◌, ◌≤◌, ◌<◌, Bool, true, false, cond, ℤ, List, [], ◌++◌, length, IsErr, Result, Ok, Err, nat_le, refl}
+use Rattle.std.specs.declared.alloc.AllocError.{AllocError}
 use Rattle.std.proofs.Common.{ap, sym, subst, ◌∙◌, arith}
 use Rattle.std.proofs.lemmas.Bool.Decides.{leb_tells}
 use Rattle.ams_value.specs.declared.val.Val.{Val}
@@ -8,15 +9,17 @@ use Rattle.step_data.specs.declared.event.Event.{Event}
 use Rattle.step_data.specs.declared.outcome.Cause.{Cause}
 use Rattle.step_data.specs.declared.outcome.ChooseKind.TheVariants.{Timed}
 use Rattle.step_model.specs.declared.kernel_stage.KernelStage.TheVariants.{Going}
-use Rattle.step_model.specs.Answers.{IsStep}
+use Rattle.step_model.specs.Answers.{IsStep, CanStep}
 use Rattle.step_model.specs.Counts.{more}
-use Rattle.step_model.specs.Kernel.{KernelState}
+use Rattle.step_model.specs.Kernel.{KernelState, AddsFront}
 use Rattle.step_model.specs.System.{System, Digital, Landing}
 use Rattle.lockstep_model.specs.Crossing.{Bounds, is_near, middle, narrowed, differs, lower_half, upper_half}
 use Rattle.lockstep_model.specs.RunStates.{RunState}
 use Rattle.lockstep_model.specs.Lockstep as l
+use Rattle.lockstep_model.specs.StepSizes.{probe_fits}
 use Rattle.lockstep_model.specs.Works.{Worked}
 use Rattle.lockstep_model.specs.Works as kinds
+use Rattle.lockstep_model.specs.declared.moves.Moved.{Moved}
 use Rattle.lockstep_model.specs.declared.moves.Moved.TheVariants as says
 use Rattle.lockstep_model.specs.declared.moves.Ask.TheVariants as asks
 use Rattle.above_events.specs.Locating.{Span, with_point}
@@ -33,7 +36,7 @@ use Rattle.mixed_cycle.specs.declared.machine.Machine.{Machine}
 use Rattle.mixed_cycle.specs.Standing.{IsSearch, StandsBy, Stands, pending, digital_at}
 use Rattle.mixed_cycle.specs.Deciding.{digital_going}
 use Rattle.mixed_cycle.specs.Machine.{Sound, moment_of}
-use Rattle.mixed_cycle.specs.Making.{Performs, worked, work_done, still_sound}
+use Rattle.mixed_cycle.specs.Making.{Performs, worked, work_done, work_lost, still_sound}
 
 -- where a search is ready, its bounds are far and a try is left
 pub record CanProbe (xres : ℕ) (b : Bounds) (tries : ℕ) : Type 0 where
@@ -101,6 +104,42 @@ narrowed_ordered xres tip time until th b (Ok s) fine far old =
       | true ↦ lower xres tip time until b s.x (far-apart xres b fine far) old
       | false ↦ upper xres tip time until b (far-apart xres b fine far) old
     ]
+
+-- a tip of a place that fits is one from which a step may be made
+pub can_step : {D S K : Type 0} (sys : System) (part : S → ℕ) (state : K → KernelState) (m : Machine D S K) → Sound sys part state m → CanStep sys m.frame m.place.tip
+can_step sys part state m s =
+    let most = s.stands.fits.tip_most in
+    let stop = s.allowed.stop_most in
+    record { frame_fits = s.frame_fits; point_fits = s.stands.fits.tip_fits; within = omega arith }
+
+-- what a probe asks of its caller
+pub record ProbeNeeds (sys : System) (frame : List Val) (p : Place) : Type 0 where
+  pub far : is_near p.search.xres (with_point p.search p.at_hi) ≡ false
+  pub gap : p.search.xres < p.search.hi - p.search.lo
+  pub order : p.tip.t ≤ p.search.lo
+  pub tip : CanStep sys frame p.tip
+  pub step : IsStep (middle (with_point p.search p.at_hi) - p.tip.t)
+  pub some : 1 ≤ p.tries_left
+
+gap-between : (xres lo hi : ℕ) → nat_le (hi - lo) xres ≡ false → xres < hi - lo
+gap-between xres lo hi e = grind (arith, leb_tells)
+
+pub probe_needs : {D S K : Type 0} (sys : System) (part : S → ℕ) (state : K → KernelState) (m : Machine D S K) → Sound sys part state m → m.place.stage ≡ stages.InSearch → IsReady (next_of sys (held_of (digital_at sys (state m.kernel)) m.place)) → ProbeNeeds sys m.frame m.place
+probe_needs sys part state m s e r =
+    let k = state m.kernel in
+    let p = m.place in
+    let d = digital_at sys k in
+    let b = with_point p.search p.at_hi in
+    let search : IsSearch sys k m.frame p.time p.timed p.tip p.search = subst (λ (x : Stage). StandsBy x sys k m.frame p) e s.stands.stands in
+    let can : CanProbe p.search.xres b p.tries_left = can_probe sys d p e search.distance r in
+    record {
+      far = can.far;
+      gap = gap-between p.search.xres p.search.lo p.search.hi can.far;
+      order = search.tip_before;
+      tip = can_step sys part state m s;
+      step = probe_fits sys (state_of d p) b s.allowed search.tip_before search.step (subst (λ (x : ℕ). is_near x b ≡ false) search.distance can.far);
+      some = can.some;
+    }
 
 -- a probe was made
 pub probe_done : {D S K : Type 0} (sys : System) (part count : S → ℕ) (state : K → KernelState) (m : Machine D S K) (s' : S) (bs : List ℕ) (x : List ℤ) (span : Span) (at_hi : List ℤ) (is_chosen : Bool) (P : Place) (out out' : List Event)
@@ -172,3 +211,35 @@ probe_done {D = D} {S = S} {K = K} sys part count state m s' bs x span at_hi is_
   where
     none-more : (n : ℕ) → 0 + n ≡ n
     none-more n = omega arith
+
+-- no memory was found for the point of a probe
+pub probe_lost : {D S K : Type 0} (sys : System) (part count : S → ℕ) (state : K → KernelState) (m m' : Machine D S K) (bs : List ℕ) (span : Span) (at_hi : List ℤ) (is_chosen : Bool) (out out' : List Event) (res : Result Moved AllocError)
+    → IsErr res → Sound sys part state m → m.place.stage ≡ stages.InSearch
+    → IsReady (next_of sys (held_of (digital_at sys (state m.kernel)) m.place))
+    → span.xres ≡ m.place.search.xres
+    → ((state m.kernel).stage ≡ Going → with_point span at_hi ≡ narrowed (sys.thresholds (state m.kernel).digital) (with_point m.place.search m.place.at_hi) (sys.trial m.frame m.place.tip (middle (with_point m.place.search m.place.at_hi) - m.place.tip.t)))
+    → chosen_of is_chosen bs (olds_of m.place) ≡ l.branches_or (olds_of m.place) (sys.choose m.frame m.place.tip.t Timed m.place.tip.x)
+    → AddsFront out out' (bound_at (record m.place { search = span; at_hi = at_hi; tries_left = m.place.tries_left - 1 }) is_chosen bs)
+    → Performs sys part count state (count m.stepper) m' out out' res (worked sys (moment_of sys state m))
+probe_lost {D = D} {S = S} {K = K} sys part count state m m' bs span at_hi is_chosen out out' res lost s e r fine narrows chosen front =
+    let k = state m.kernel in
+    let p = m.place in
+    let d = k.digital in
+    let q = state_of d p in
+    let b = with_point p.search p.at_hi in
+    let search : IsSearch sys k m.frame p.time p.timed p.tip p.search = subst (λ (x : Stage). StandsBy x sys k m.frame p) e s.stands.stands in
+    let going : digital_at sys k ≡ d = digital_going sys k search.goes.stage in
+    let is : m.frame ≡ sys.frame d = search.goes.frame_is in
+    let ready : IsReady (next_of sys (held_of d p)) = subst (λ (y : Digital). IsReady (next_of sys (held_of y p))) going r in
+    let probed : with_point span at_hi ≡ l.probed sys q b =
+    narrows search.goes.stage ∙ ap (λ (f : List Val). narrowed (sys.thresholds d) b (sys.trial f p.tip (middle b - p.tip.t))) is in
+    let branches : chosen_of is_chosen bs (olds_of p) ≡ l.step_branches sys q =
+    chosen ∙ ap (λ (f : List Val). l.branches_or (olds_of p) (sys.choose f p.tip.t Timed p.tip.x)) is in
+    let xres : span.xres ≡ sys.options.xres = fine ∙ search.distance in
+    work_lost sys part count state (count m.stepper) m m' out out' q kinds.Probe (l.bound_events sys q (l.probed sys q b)) false (l.standing sys q) (h.at (h.InSearch (l.probed sys q b)) p.cycles_left (p.tries_left - 1) q) res lost
+    (subst (λ (y : Digital). next_of sys (held_of y p) ≡ Makes q (Worked kinds.Probe (l.bound_events sys q (l.probed sys q b)) false (l.standing sys q)) (h.at (h.InSearch (l.probed sys q b)) p.cycles_left (p.tries_left - 1) q)) (sym going) (probe-next sys d p e ready))
+    (subst (λ (es : List Event). AddsFront out out' es)
+    (ap (λ (z : ℕ). cond (is_near z (with_point span at_hi)) (l.point_events span.hi 0 at_hi (chosen_of is_chosen bs (olds_of p)) (olds_of p)) []) xres
+    ∙ ap (λ (bs' : List ℕ). cond (is_near sys.options.xres (with_point span at_hi)) (l.point_events span.hi 0 at_hi bs' (olds_of p)) []) branches
+    ∙ ap (λ (y : Bounds). l.bound_events sys q y) probed)
+    front)
