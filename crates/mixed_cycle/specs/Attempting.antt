@@ -20,7 +20,7 @@ use Rattle.lockstep_model.specs.Lockstep as l
 use Rattle.cycle_machine.specs.Held as h
 use Rattle.cycle_machine.specs.Held.{Held, Makes, Step, next_of, rest_of}
 use Rattle.cycle_machine.specs.Moves.{IsTried}
-use Rattle.run_place.specs.declared.place.Place.{Place}
+use Rattle.run_place.specs.declared.place.RunPlace.{RunPlace}
 use Rattle.run_place.specs.declared.place.Stage.{Stage}
 use Rattle.run_place.specs.declared.place.Stage.TheVariants as stages
 use Rattle.run_place.specs.Places.{stage_of, state_of, held_of}
@@ -47,7 +47,7 @@ pub record Uses {D S K : Type 0} (sys : System) (part : S → ℕ) (state : K �
   pub crosses_is : (state m.kernel).stage ≡ Going → crosses ≡ crosses_at gives a (sys.thresholds (state m.kernel).digital)
 
 -- what is true of it before it is used
-pub record Attempts (sys : System) (k : KernelState) (frame : List Val) (cycles : ℕ) (p : Place) (a : Attempt) : Type 0 where
+pub record Attempts (sys : System) (k : KernelState) (frame : List Val) (cycles : ℕ) (p : RunPlace) (a : Attempt) : Type 0 where
   pub digital : digital_at sys k ≡ k.digital
   pub phase : IsPhase sys k frame p.time p.timed p.tip
   pub tried : TriedNext sys k.digital p
@@ -108,24 +108,24 @@ crossing_order sys part state m a bs is_chosen gives crosses u e =
 
 -- ---- what is held behind it
 
-abbrev pub counted : Place → Place
+abbrev pub counted : RunPlace → RunPlace
 counted p = record p { tries_left = p.tries_left - 1 }
 
 -- its branches and its end, in the words of the definition
-abbrev behind_of : System → Digital → Bool → Bool → Place → Attempt → Held
+abbrev behind_of : System → Digital → Bool → Bool → RunPlace → Attempt → Held
 behind_of sys d crosses gives p a = h.behind_by (l.attempt_end crosses (is_failed a.kind)) sys p.cycles_left (p.tries_left - 1) (state_of d p) a
 
-given-state : (d : Digital) (gives is_chosen : Bool) (bs : List ℕ) (p : Place) (t : Tip) → state_of d (record (given_at gives is_chosen bs p) { tip = t }) ≡ record (state_of d p) { tip = t; branches = cond gives (chosen_of is_chosen bs (olds_of p)) (olds_of p) }
+given-state : (d : Digital) (gives is_chosen : Bool) (bs : List ℕ) (p : RunPlace) (t : Tip) → state_of d (record (given_at gives is_chosen bs p) { tip = t }) ≡ record (state_of d p) { tip = t; branches = cond gives (chosen_of is_chosen bs (olds_of p)) (olds_of p) }
 given-state d true true bs p t = refl
 given-state d true false bs p t = refl
 given-state d false is_chosen bs p t = refl
 
-given-held : (d : Digital) (gives is_chosen : Bool) (bs : List ℕ) (p : Place) (t : Tip) → held_of d (record (given_at gives is_chosen bs p) { tip = t }) ≡ h.at (stage_of p.stage p.search p.at_hi) p.cycles_left p.tries_left (state_of d (record (given_at gives is_chosen bs p) { tip = t }))
+given-held : (d : Digital) (gives is_chosen : Bool) (bs : List ℕ) (p : RunPlace) (t : Tip) → held_of d (record (given_at gives is_chosen bs p) { tip = t }) ≡ h.at (stage_of p.stage p.search p.at_hi) p.cycles_left p.tries_left (state_of d (record (given_at gives is_chosen bs p) { tip = t }))
 given-held d true true bs p t = refl
 given-held d true false bs p t = refl
 given-held d false is_chosen bs p t = refl
 
-further-held : (sys : System) (d : Digital) (gives is_chosen : Bool) (bs : List ℕ) (p : Place) (a : Attempt) → p.stage ≡ stages.InPhase → gives ≡ l.gives_point (state_of d p) a → chosen_of is_chosen bs (olds_of p) ≡ l.step_branches sys (state_of d p) →
+further-held : (sys : System) (d : Digital) (gives is_chosen : Bool) (bs : List ℕ) (p : RunPlace) (a : Attempt) → p.stage ≡ stages.InPhase → gives ≡ l.gives_point (state_of d p) a → chosen_of is_chosen bs (olds_of p) ≡ l.step_branches sys (state_of d p) →
     held_of d (record (given_at gives is_chosen bs (counted p)) { tip = next p.tip a }) ≡ h.at h.InPhase p.cycles_left (p.tries_left - 1) (l.behind sys (state_of d p) a)
 further-held sys d gives is_chosen bs p a e gave branches =
     let q = state_of d p in
@@ -136,31 +136,31 @@ further-held sys d gives is_chosen bs p a e gave branches =
     ∙ ap (λ (ys : List ℕ). record q { tip = next p.tip a; branches = cond gives ys (olds_of p) }) branches
     ∙ ap (λ (b : Bool). record q { tip = next p.tip a; branches = cond b (l.step_branches sys q) (olds_of p) }) gave)
 
-failed-held : (kind : Kind) (sys : System) (d : Digital) (gives is_chosen after : Bool) (bs : List ℕ) (p : Place) (a : Attempt) → is_failed kind ≡ true → gives ≡ (is_accepted kind && after) →
+failed-held : (kind : Kind) (sys : System) (d : Digital) (gives is_chosen after : Bool) (bs : List ℕ) (p : RunPlace) (a : Attempt) → is_failed kind ≡ true → gives ≡ (is_accepted kind && after) →
     held_of d (too_small a.end a.cause.code (record (given_at gives is_chosen bs (counted p)) { tip = next_by kind p.tip a })) ≡ h.ended (l.step_too_small a.end a.cause) p.cycles_left (p.tries_left - 1) (state_of d p)
 failed-held Accepted sys d gives is_chosen after bs p a e gave = cc
 failed-held Rejected sys d gives is_chosen after bs p a e gave = cc
 failed-held Failed sys d gives is_chosen after bs p a e gave =
     ap (λ (b : Bool). held_of d (too_small a.end a.cause.code (record (given_at b is_chosen bs (counted p)) { tip = p.tip }))) gave
 
-passed-held : (failed : Bool) (sys : System) (d : Digital) (gives is_chosen : Bool) (bs : List ℕ) (p : Place) (a : Attempt) → is_failed a.kind ≡ failed → p.stage ≡ stages.InPhase → gives ≡ l.gives_point (state_of d p) a → chosen_of is_chosen bs (olds_of p) ≡ l.step_branches sys (state_of d p) →
+passed-held : (failed : Bool) (sys : System) (d : Digital) (gives is_chosen : Bool) (bs : List ℕ) (p : RunPlace) (a : Attempt) → is_failed a.kind ≡ failed → p.stage ≡ stages.InPhase → gives ≡ l.gives_point (state_of d p) a → chosen_of is_chosen bs (olds_of p) ≡ l.step_branches sys (state_of d p) →
     held_of d (ended_by failed a (record (given_at gives is_chosen bs (counted p)) { tip = next p.tip a })) ≡ h.behind_by (l.attempt_end false failed) sys p.cycles_left (p.tries_left - 1) (state_of d p) a
 passed-held true sys d gives is_chosen bs p a failed e gave branches = failed-held a.kind sys d gives is_chosen (nat_lt p.time a.end) bs p a failed gave
 passed-held false sys d gives is_chosen bs p a failed e gave branches = further-held sys d gives is_chosen bs p a e gave branches
 
-pub used_held : (crosses : Bool) (sys : System) (d : Digital) (gives is_chosen : Bool) (bs : List ℕ) (xres : ℕ) (p : Place) (a : Attempt) → p.stage ≡ stages.InPhase → gives ≡ l.gives_point (state_of d p) a → chosen_of is_chosen bs (olds_of p) ≡ l.step_branches sys (state_of d p) →
+pub used_held : (crosses : Bool) (sys : System) (d : Digital) (gives is_chosen : Bool) (bs : List ℕ) (xres : ℕ) (p : RunPlace) (a : Attempt) → p.stage ≡ stages.InPhase → gives ≡ l.gives_point (state_of d p) a → chosen_of is_chosen bs (olds_of p) ≡ l.step_branches sys (state_of d p) →
     held_of d (used_left crosses gives a xres is_chosen bs (counted p)) ≡ h.behind_by (l.attempt_end crosses (is_failed a.kind)) sys p.cycles_left (p.tries_left - 1) (state_of d p) a
 used_held true sys d gives is_chosen bs xres p a e gave branches = refl
 used_held false sys d gives is_chosen bs xres p a e gave branches = passed-held (is_failed a.kind) sys d gives is_chosen bs p a refl e gave branches
 
 -- ---- what it gives
 
-passed-gives : (sys : System) (d : Digital) (gives is_chosen : Bool) (bs : List ℕ) (p : Place) (a : Attempt) → chosen_of is_chosen bs (olds_of p) ≡ l.step_branches sys (state_of d p) →
+passed-gives : (sys : System) (d : Digital) (gives is_chosen : Bool) (bs : List ℕ) (p : RunPlace) (a : Attempt) → chosen_of is_chosen bs (olds_of p) ≡ l.step_branches sys (state_of d p) →
     passed_events gives a is_chosen bs (counted p) ≡ cond gives (l.point_events a.end 0 a.x (l.step_branches sys (state_of d p)) (olds_of p)) []
 passed-gives sys d true is_chosen bs p a branches = ap (λ (ys : List ℕ). l.point_events a.end 0 a.x ys (olds_of p)) branches
 passed-gives sys d false is_chosen bs p a branches = refl
 
-pub used_gives : (crosses : Bool) (sys : System) (d : Digital) (gives is_chosen : Bool) (bs : List ℕ) (xres : ℕ) (p : Place) (a : Attempt) → xres ≡ sys.options.xres → chosen_of is_chosen bs (olds_of p) ≡ l.step_branches sys (state_of d p) →
+pub used_gives : (crosses : Bool) (sys : System) (d : Digital) (gives is_chosen : Bool) (bs : List ℕ) (xres : ℕ) (p : RunPlace) (a : Attempt) → xres ≡ sys.options.xres → chosen_of is_chosen bs (olds_of p) ≡ l.step_branches sys (state_of d p) →
     used_events crosses gives a xres is_chosen bs (counted p) ≡ cond crosses (l.bound_events sys (state_of d p) (l.attempt_bounds (state_of d p) a)) (cond gives (l.point_events a.end 0 a.x (l.step_branches sys (state_of d p)) (olds_of p)) [])
 used_gives true sys d gives is_chosen bs xres p a xres_is branches =
     let q = state_of d p in
@@ -179,7 +179,7 @@ record TipFits (sys : System) (until t : ℕ) (x : List ℤ) : Type 0 where
   most : t ≤ until
   fits : length x ≡ sys.unknowns
 
-given-stands : (failed : Bool) (sys : System) (k : KernelState) (frame : List Val) (cycles : ℕ) (gives is_chosen : Bool) (bs : List ℕ) (p : Place) (a : Attempt) (t : Tip) → length bs ≡ sys.choices → p.stage ≡ stages.InPhase → Fits sys p.time p.point t p.at_hi p.solved p.gathered p.branches → IsPhase sys k frame p.time p.timed t → cycles + p.cycles_left ≤ 200000 →
+given-stands : (failed : Bool) (sys : System) (k : KernelState) (frame : List Val) (cycles : ℕ) (gives is_chosen : Bool) (bs : List ℕ) (p : RunPlace) (a : Attempt) (t : Tip) → length bs ≡ sys.choices → p.stage ≡ stages.InPhase → Fits sys p.time p.point t p.at_hi p.solved p.gathered p.branches → IsPhase sys k frame p.time p.timed t → cycles + p.cycles_left ≤ 200000 →
     Stands sys k frame cycles (ended_by failed a (record (given_at gives is_chosen bs (counted p)) { tip = t }))
 given-stands true sys k frame cycles true true bs p a t room e f phase few =
     record { fits = record { time_most = f.time_most; point_fits = f.point_fits; tip_fits = f.tip_fits; tip_most = f.tip_most; step = f.step; at_hi_fits = f.at_hi_fits; solved_fits = f.solved_fits; elements = f.elements; branches_fit = room }; stands = tt; few = omega arith }
@@ -208,7 +208,7 @@ until-stop : (next : Option ℕ) (stop : ℕ) → l.until_of next stop ≤ stop
 until-stop (Some n) stop = omega arith
 until-stop None stop = omega arith
 
-pub used_stands : (crosses : Bool) (sys : System) (k : KernelState) (frame : List Val) (cycles : ℕ) (gives is_chosen : Bool) (bs : List ℕ) (xres : ℕ) (p : Place) (a : Attempt) → PlaceFits sys p → Attempts sys k frame cycles p a → xres ≡ sys.options.xres → length bs ≡ sys.choices → length a.x ≡ sys.unknowns → (crosses ≡ true → max p.time p.tip.t < a.end) →
+pub used_stands : (crosses : Bool) (sys : System) (k : KernelState) (frame : List Val) (cycles : ℕ) (gives is_chosen : Bool) (bs : List ℕ) (xres : ℕ) (p : RunPlace) (a : Attempt) → PlaceFits sys p → Attempts sys k frame cycles p a → xres ≡ sys.options.xres → length bs ≡ sys.choices → length a.x ≡ sys.unknowns → (crosses ≡ true → max p.time p.tip.t < a.end) →
     Stands sys k frame cycles (used_left crosses gives a xres is_chosen bs (counted p))
 used_stands true sys k frame cycles gives is_chosen bs xres p a f t xres_is room fits order =
     let few = t.few in

@@ -26,7 +26,7 @@ use Rattle.lockstep_model.specs.declared.moves.Moved.TheVariants as says
 use Rattle.lockstep_model.specs.declared.moves.Ask.TheVariants as asks
 use Rattle.cycle_machine.specs.Held as h
 use Rattle.cycle_machine.specs.Held.{Held, next_of, next_by}
-use Rattle.run_place.specs.declared.place.Place.{Place}
+use Rattle.run_place.specs.declared.place.RunPlace.{RunPlace}
 use Rattle.run_place.specs.declared.place.Stage.{Stage}
 use Rattle.run_place.specs.declared.place.Stage.TheVariants as stages
 use Rattle.run_place.specs.Places.{stage_of, state_of, held_of}
@@ -40,14 +40,14 @@ use Rattle.mixed_cycle.specs.Machine.{Sound, moment_of}
 use Rattle.mixed_cycle.specs.Making.{Performs, worked, work_done, work_lost, still_sound}
 
 -- what the call of a cycle gives at a kernel that goes on
-abbrev pub cycle_from : System → KernelState → Place → Bool → CycleOutcome
+abbrev pub cycle_from : System → KernelState → RunPlace → Bool → CycleOutcome
 cycle_from sys k p to_time = cycle_of sys k p.time p.delta p.point to_time
 
-pub cycle_going : (sys : System) (k : KernelState) (p : Place) (to_time : Bool) → k.stage ≡ Going → cycle_from sys k p to_time ≡ l.cycle_at sys to_time (state_of k.digital p)
+pub cycle_going : (sys : System) (k : KernelState) (p : RunPlace) (to_time : Bool) → k.stage ≡ Going → cycle_from sys k p to_time ≡ l.cycle_at sys to_time (state_of k.digital p)
 cycle_going sys k p to_time e = ap (λ (s : KernelStage). cycle_by s sys k.digital p.time p.delta p.point to_time) e
 
 -- what comes next, by how the cycle ended
-cycle-next : (sys : System) (d : Digital) (p : Place) (to_time : Bool) (ran : Ran) → p.stage ≡ stages.InCycle to_time → (l.cycle_at sys to_time (state_of d p)).ran ≡ ran → next_of sys (held_of d p) ≡ h.cycled_by ran sys to_time p.cycles_left p.tries_left (state_of d p)
+cycle-next : (sys : System) (d : Digital) (p : RunPlace) (to_time : Bool) (ran : Ran) → p.stage ≡ stages.InCycle to_time → (l.cycle_at sys to_time (state_of d p)).ran ≡ ran → next_of sys (held_of d p) ≡ h.cycled_by ran sys to_time p.cycles_left p.tries_left (state_of d p)
 cycle-next sys d p to_time ran e is =
     ap (λ (s : Stage). next_by (stage_of s p.search p.at_hi) sys p.cycles_left p.tries_left (state_of d p)) e
     ∙ ap (λ (r : Ran). h.cycled_by r sys to_time p.cycles_left p.tries_left (state_of d p)) is
@@ -60,7 +60,7 @@ gathered_by timed olds more = cond timed olds (l.gathered_with olds more)
 abbrev pub renews_by : Bool → Bool → Bool → List Val → List Val → Bool
 renews_by timed to_time broke frame new = (timed || to_time) && (not broke && (to_time || not (same_frame frame new)))
 
-abbrev after_cycle : Digital → Place → Bool → Bool → Bool → ℕ → List Element → RunState
+abbrev after_cycle : Digital → RunPlace → Bool → Bool → Bool → ℕ → List Element → RunState
 after_cycle d p to_time broke renewed h0 gathered =
     record {
       digital = d;
@@ -75,11 +75,11 @@ after_cycle d p to_time broke renewed h0 gathered =
       branches = (state_of d p).branches;
     }
 
-left-held : (d : Digital) (p : Place) (to_time broke renewed : Bool) (h0 : ℕ) (gathered : List Element) → held_of d (cycled_left to_time h0 broke renewed (record p { gathered = gathered })) ≡ h.at h.Placed p.cycles_left p.tries_left (after_cycle d p to_time broke renewed h0 gathered)
+left-held : (d : Digital) (p : RunPlace) (to_time broke renewed : Bool) (h0 : ℕ) (gathered : List Element) → held_of d (cycled_left to_time h0 broke renewed (record p { gathered = gathered })) ≡ h.at h.Placed p.cycles_left p.tries_left (after_cycle d p to_time broke renewed h0 gathered)
 left-held d p to_time broke true h0 gathered = refl
 left-held d p to_time broke false h0 gathered = refl
 
-left-stands : (sys : System) (k' : KernelState) (frame' : List Val) (cycles : ℕ) (p : Place) (to_time broke renewed : Bool) (h0 : ℕ) (gathered : List Element) → PlaceFits sys p → All (λ e. IsTrue (sys.is_element e)) gathered → HasStep sys.options h0 → p.tip.t ≤ p.time → cycles + (p.cycles_left + 1) ≤ 200000 →
+left-stands : (sys : System) (k' : KernelState) (frame' : List Val) (cycles : ℕ) (p : RunPlace) (to_time broke renewed : Bool) (h0 : ℕ) (gathered : List Element) → PlaceFits sys p → All (λ e. IsTrue (sys.is_element e)) gathered → HasStep sys.options h0 → p.tip.t ≤ p.time → cycles + (p.cycles_left + 1) ≤ 200000 →
     k'.stage ≡ Going → frame' ≡ sys.frame k'.digital → k'.digital.timed ≡ (p.timed || to_time) → k'.digital.time ≡ p.time →
     Stands sys k' frame' (1 + cycles) (cycled_left to_time h0 broke renewed (record p { gathered = gathered }))
 left-stands sys k' frame' cycles p to_time broke true h0 gathered f all st tip few going frame timed time =
@@ -96,7 +96,7 @@ left-stands sys k' frame' cycles p to_time broke false h0 gathered f all st tip 
     }
 
 -- what the cycle of a kernel left
-pub record Cycled (sys : System) (k k' : KernelState) (p : Place) (to_time : Bool) (ran : Ran) : Type 0 where
+pub record Cycled (sys : System) (k k' : KernelState) (p : RunPlace) (to_time : Bool) (ran : Ran) : Type 0 where
   pub ran_is : ran ≡ (cycle_from sys k p to_time).ran
   pub stage_is : k'.stage ≡ stage_after (cycle_from sys k p to_time).ran
   pub digital_is : k'.stage ≡ Going → k'.digital ≡ (cycle_from sys k p to_time).digital
@@ -104,7 +104,7 @@ pub record Cycled (sys : System) (k k' : KernelState) (p : Place) (to_time : Boo
   pub domain_is : k'.stage ≡ Going → k'.digital.timed ≡ (k.digital.timed || to_time)
 
 -- a cycle was made
-pub cycle_done : {D S K : Type 0} (sys : System) (part count : S → ℕ) (state : K → KernelState) (m : Machine D S K) (kernel : K) (gathered : List Element) (frame spare : List Val) (broke renewed to_time : Bool) (n : ℕ) (P : Place) (out out' : List Event) (said : Moved)
+pub cycle_done : {D S K : Type 0} (sys : System) (part count : S → ℕ) (state : K → KernelState) (m : Machine D S K) (kernel : K) (gathered : List Element) (frame spare : List Val) (broke renewed to_time : Bool) (n : ℕ) (P : RunPlace) (out out' : List Event) (said : Moved)
     → Sound sys part state m → m.awaited ≡ Ready → m.place.stage ≡ stages.InCycle to_time
     → Cycled sys (state m.kernel) (state kernel) m.place to_time (rans.Done broke)
     → ((state kernel).stage ≡ Going → gathered ≡ gathered_by (m.place.timed || to_time) m.place.gathered (sys.breaks (state kernel).digital))
@@ -138,7 +138,7 @@ cycle_done {D = D} {S = S} {K = K} sys part count state m kernel gathered frame 
     gathers goes ∙ ap (λ (y : Digital). gathered_by (p.timed || to_time) p.gathered (sys.breaks y)) digital in
     let held : held_of (digital_at sys k') P ≡ h.at h.Placed p.cycles_left p.tries_left (l.cycled sys to_time q broke) =
     ap (λ (y : Digital). held_of y P) (digital_going sys k' goes ∙ digital)
-    ∙ ap (λ (y : Place). held_of (l.cycle_at sys to_time q).digital y) left
+    ∙ ap (λ (y : RunPlace). held_of (l.cycle_at sys to_time q).digital y) left
     ∙ left-held (l.cycle_at sys to_time q).digital p to_time broke renewed m.options.h0 gathered
     ∙ ap (λ (b : Bool). h.at h.Placed p.cycles_left p.tries_left (after_cycle (l.cycle_at sys to_time q).digital p to_time broke b m.options.h0 gathered)) renew_is
     ∙ ap (λ (y : ℕ). h.at h.Placed p.cycles_left p.tries_left (after_cycle (l.cycle_at sys to_time q).digital p to_time broke (l.renews sys to_time q broke) y gathered)) first
@@ -158,7 +158,7 @@ cycle_done {D = D} {S = S} {K = K} sys part count state m kernel gathered frame 
     (still_sound sys part state m m' s s.part_is refl
     (record { asked = s.room.asked; frame = len; made = s.room.made; x = s.room.x; branches = s.room.branches; new_frame = spare_len })
     fits
-    (subst (λ (y : Place). Stands sys k' frame n y) (sym left)
+    (subst (λ (y : RunPlace). Stands sys k' frame n y) (sym left)
     (subst (λ (y : ℕ). Stands sys k' frame y (cycled_left to_time m.options.h0 broke renewed (record p { gathered = gathered }))) (sym counts)
     (left-stands sys k' frame m.cycles p to_time broke renewed m.options.h0 gathered s.stands.fits all
     (subst (λ (y : ℕ). HasStep sys.options y) (sym first) (first_step sys.options s.allowed))
@@ -170,7 +170,7 @@ cycle_done {D = D} {S = S} {K = K} sys part count state m kernel gathered frame 
     (gave ∙ ap (λ (c : CycleOutcome). out ++ c.events) from)
 
 -- a cycle was refused
-pub cycle_refused : {D S K : Type 0} (sys : System) (part count : S → ℕ) (state : K → KernelState) (m : Machine D S K) (kernel : K) (refusal : Refusal) (to_time : Bool) (n : ℕ) (P : Place) (out out' : List Event)
+pub cycle_refused : {D S K : Type 0} (sys : System) (part count : S → ℕ) (state : K → KernelState) (m : Machine D S K) (kernel : K) (refusal : Refusal) (to_time : Bool) (n : ℕ) (P : RunPlace) (out out' : List Event)
     → Sound sys part state m → m.awaited ≡ Ready → m.place.stage ≡ stages.InCycle to_time
     → Cycled sys (state m.kernel) (state kernel) m.place to_time (rans.Refused refusal)
     → n ≡ m.cycles + 1
@@ -194,16 +194,16 @@ cycle_refused {D = D} {S = S} {K = K} sys part count state m kernel refusal to_t
     let m' : Machine D S K = record m { kernel = kernel; place = P; cycles = n } in
     work_done sys part count state m m' out out' q kinds.Cycle (l.cycle_at sys to_time q).events false (l.standing sys q) (h.at (h.Finished (ends.Refused p.time refusal)) p.cycles_left p.tries_left q) (says.Ask asks.None)
     next
-    (ap (λ (y : Place). h.rest_of sys (held_of (digital_at sys k') y)) left)
+    (ap (λ (y : RunPlace). h.rest_of sys (held_of (digital_at sys k') y)) left)
     awaits
-    (ap (λ (y : Place). y.tip) left)
+    (ap (λ (y : RunPlace). y.tip) left)
     delta.goes.frame_is
     refl
     counts
     (still_sound sys part state m m' s s.part_is refl
     (record { asked = s.room.asked; frame = s.room.frame; made = s.room.made; x = s.room.x; branches = s.room.branches; new_frame = s.room.new_frame })
     s.frame_fits
-    (subst (λ (y : Place). Stands sys k' m.frame n y) (sym left) (record { fits = s.stands.fits; stands = tt; few = omega arith })))
+    (subst (λ (y : RunPlace). Stands sys k' m.frame n y) (sym left) (record { fits = s.stands.fits; stands = tt; few = omega arith })))
     refl
     refl
     (gave ∙ ap (λ (c : CycleOutcome). out ++ c.events) from)

@@ -9,13 +9,13 @@ use Rattle.step_model.specs.System.{System}
 use Rattle.lockstep_model.specs.Lockstep.{until_of, stands}
 use Rattle.lockstep_model.specs.Crossing.{is_near}
 use Rattle.above_events.specs.Locating.{with_point}
-use Rattle.run_place.specs.declared.place.Place.{Place}
+use Rattle.run_place.specs.declared.place.RunPlace.{RunPlace}
 use Rattle.run_place.specs.declared.place.Stage.TheVariants as stages
 use Rattle.run_place.specs.Decisions as c
 use Rattle.mixed_cycle.specs.Standing.{PlaceFits, Goes, IsPlaced, IsDelta, IsPhase, IsSearch, StandsBy, Stands, pending}
 
 -- a delta is begun where its cycle may be made
-pub began_stands : (sys : System) (k : KernelState) (frame : List Val) (cycles : ℕ) (to_time : Bool) (p : Place) → PlaceFits sys p → IsDelta sys k frame p.time p.timed p.tip to_time → cycles + p.cycles_left ≤ 200000 → Stands sys k frame cycles (c.began to_time p)
+pub began_stands : (sys : System) (k : KernelState) (frame : List Val) (cycles : ℕ) (to_time : Bool) (p : RunPlace) → PlaceFits sys p → IsDelta sys k frame p.time p.timed p.tip to_time → cycles + p.cycles_left ≤ 200000 → Stands sys k frame cycles (c.began to_time p)
 began_stands sys k frame cycles to_time p fits delta few =
     elim (p.cycles_left == 0) as
     (λ b. (p.cycles_left == 0) ≡ b → Stands sys k frame cycles (cond b (c.end_with 75 p) (record p { stage = stages.InDelta to_time; cycles_left = p.cycles_left - 1 }))) [
@@ -25,10 +25,10 @@ began_stands sys k frame cycles to_time p fits delta few =
           record { fits = fits; stands = delta; few = omega arith }
     ] refl
 
-reached-stands : (sys : System) (k : KernelState) (frame : List Val) (cycles : ℕ) (p : Place) → PlaceFits sys p → cycles + p.cycles_left ≤ 200000 → Stands sys k frame cycles (c.reached p)
+reached-stands : (sys : System) (k : KernelState) (frame : List Val) (cycles : ℕ) (p : RunPlace) → PlaceFits sys p → cycles + p.cycles_left ≤ 200000 → Stands sys k frame cycles (c.reached p)
 reached-stands sys k frame cycles p fits few = record { fits = fits; stands = tt; few = omega arith }
 
-pub arrived_stands : (sys : System) (k : KernelState) (frame : List Val) (cycles : ℕ) (p : Place) → PlaceFits sys p → IsDelta sys k frame p.time p.timed p.tip false → cycles + p.cycles_left ≤ 200000 → Stands sys k frame cycles (c.arrived_at (sys.next_time k.digital) p)
+pub arrived_stands : (sys : System) (k : KernelState) (frame : List Val) (cycles : ℕ) (p : RunPlace) → PlaceFits sys p → IsDelta sys k frame p.time p.timed p.tip false → cycles + p.cycles_left ≤ 200000 → Stands sys k frame cycles (c.arrived_at (sys.next_time k.digital) p)
 arrived_stands sys k frame cycles p fits delta few =
     elim (stands (sys.next_time k.digital) p.time) as
     (λ b. Stands sys k frame cycles (cond b (c.began false p) (c.reached p))) [
@@ -36,7 +36,7 @@ arrived_stands sys k frame cycles p fits delta few =
       | false ↦ reached-stands sys k frame cycles p fits few
     ]
 
-deeper-stands : (sys : System) (k : KernelState) (frame : List Val) (cycles : ℕ) (to_time : Bool) (p : Place) → PlaceFits sys p → IsDelta sys k frame p.time p.timed p.tip to_time → cycles + p.cycles_left ≤ 200000 → Stands sys k frame cycles (c.deeper_at to_time p)
+deeper-stands : (sys : System) (k : KernelState) (frame : List Val) (cycles : ℕ) (to_time : Bool) (p : RunPlace) → PlaceFits sys p → IsDelta sys k frame p.time p.timed p.tip to_time → cycles + p.cycles_left ≤ 200000 → Stands sys k frame cycles (c.deeper_at to_time p)
 deeper-stands sys k frame cycles to_time p fits delta few =
     elim (nat_le 1000 p.delta) as
     (λ b. Stands sys k frame cycles (cond b (c.end_with 72 p) (c.began to_time (record p { delta = p.delta + 1 })))) [
@@ -61,7 +61,7 @@ or_left : (a b : Bool) → (a || b) ≡ false → a ≡ false
 or_left true b h = h
 or_left false b h = refl
 
-pub placed_stands : (sys : System) (k : KernelState) (frame : List Val) (cycles : ℕ) (p : Place) → PlaceFits sys p → IsPlaced sys k frame p.time p.timed p.tip → IfSome (sys.next_time k.digital) (λ m. k.digital.time ≤ m) → cycles + p.cycles_left ≤ 200000 → Stands sys k frame cycles (c.placed_at (sys.next_time k.digital) frame sys.options.stop p)
+pub placed_stands : (sys : System) (k : KernelState) (frame : List Val) (cycles : ℕ) (p : RunPlace) → PlaceFits sys p → IsPlaced sys k frame p.time p.timed p.tip → IfSome (sys.next_time k.digital) (λ m. k.digital.time ≤ m) → cycles + p.cycles_left ≤ 200000 → Stands sys k frame cycles (c.placed_at (sys.next_time k.digital) frame sys.options.stop p)
 placed_stands sys k frame cycles p fits placed later few =
     let due = c.is_due_at p (sys.next_time k.digital) frame in
     elim (due || not p.timed) as
@@ -81,7 +81,7 @@ placed_stands sys k frame cycles p fits placed later few =
           ] refl
     ] refl
 
-pub delta_stands : (sys : System) (k : KernelState) (frame : List Val) (cycles : ℕ) (to_time : Bool) (p : Place) → p.stage ≡ stages.InDelta to_time → Stands sys k frame cycles p → Stands sys k frame cycles (c.delta_at to_time frame p)
+pub delta_stands : (sys : System) (k : KernelState) (frame : List Val) (cycles : ℕ) (to_time : Bool) (p : RunPlace) → p.stage ≡ stages.InDelta to_time → Stands sys k frame cycles p → Stands sys k frame cycles (c.delta_at to_time frame p)
 delta_stands sys k frame cycles to_time p e s =
     let delta : IsDelta sys k frame p.time p.timed p.tip to_time = subst (λ x. StandsBy x sys k frame p) e s.stands in
     let few : cycles + (p.cycles_left + pending (stages.InDelta to_time)) ≤ 200000 = subst (λ x. cycles + (p.cycles_left + pending x) ≤ 200000) e s.few in
@@ -98,7 +98,7 @@ pub until_next : (next : Option ℕ) (stop t : ℕ) → t ≤ until_of next stop
 until_next None stop t low = tt
 until_next (Some m) stop t low = omega arith
 
-tried-stands : (sys : System) (k : KernelState) (frame : List Val) (cycles : ℕ) (p : Place) → Stands sys k frame cycles p → Stands sys k frame cycles (c.tried_at p)
+tried-stands : (sys : System) (k : KernelState) (frame : List Val) (cycles : ℕ) (p : RunPlace) → Stands sys k frame cycles p → Stands sys k frame cycles (c.tried_at p)
 tried-stands sys k frame cycles p s =
     let few = s.few in
     elim (p.tries_left == 0) as (λ b. Stands sys k frame cycles (cond b (c.end_with 76 p) p)) [
@@ -106,7 +106,7 @@ tried-stands sys k frame cycles p s =
       | false ↦ s
     ]
 
-pub phase_stands : (sys : System) (k : KernelState) (frame : List Val) (cycles : ℕ) (p : Place) → p.stage ≡ stages.InPhase → Stands sys k frame cycles p → Stands sys k frame cycles (c.phase_at (sys.next_time k.digital) sys.options.stop p)
+pub phase_stands : (sys : System) (k : KernelState) (frame : List Val) (cycles : ℕ) (p : RunPlace) → p.stage ≡ stages.InPhase → Stands sys k frame cycles p → Stands sys k frame cycles (c.phase_at (sys.next_time k.digital) sys.options.stop p)
 phase_stands sys k frame cycles p e s =
     let u = until_of (sys.next_time k.digital) sys.options.stop in
     let phase : IsPhase sys k frame p.time p.timed p.tip = subst (λ x. StandsBy x sys k frame p) e s.stands in
@@ -131,14 +131,14 @@ phase_stands sys k frame cycles p e s =
     ]
 
 -- at a crossing, with the values at the later bound
-stepped-fits : (sys : System) (is_chosen : Bool) (branches : List ℕ) (t : ℕ) (p : Place) → t ≤ sys.options.stop → length branches ≡ sys.choices → PlaceFits sys p → PlaceFits sys (c.stepped_at t is_chosen branches p)
+stepped-fits : (sys : System) (is_chosen : Bool) (branches : List ℕ) (t : ℕ) (p : RunPlace) → t ≤ sys.options.stop → length branches ≡ sys.choices → PlaceFits sys p → PlaceFits sys (c.stepped_at t is_chosen branches p)
 stepped-fits sys true branches t p most few fits =
     record { time_most = most; point_fits = fits.at_hi_fits; tip_fits = fits.tip_fits; tip_most = fits.tip_most; step = fits.step; at_hi_fits = fits.point_fits; solved_fits = fits.solved_fits; elements = fits.elements; branches_fit = few }
 stepped-fits sys false branches t p most few fits =
     record { time_most = most; point_fits = fits.at_hi_fits; tip_fits = fits.tip_fits; tip_most = fits.tip_most; step = fits.step; at_hi_fits = fits.point_fits; solved_fits = fits.solved_fits; elements = fits.elements; branches_fit = fits.branches_fit }
 
 -- what a step to a time leaves beside the branches
-stepped-is : (P : ℕ → Bool → Tip → ℕ → Type 0) (is_chosen : Bool) (branches : List ℕ) (t : ℕ) (p : Place) → P t p.timed p.tip p.cycles_left → P (c.stepped_at t is_chosen branches p).time (c.stepped_at t is_chosen branches p).timed (c.stepped_at t is_chosen branches p).tip (c.stepped_at t is_chosen branches p).cycles_left
+stepped-is : (P : ℕ → Bool → Tip → ℕ → Type 0) (is_chosen : Bool) (branches : List ℕ) (t : ℕ) (p : RunPlace) → P t p.timed p.tip p.cycles_left → P (c.stepped_at t is_chosen branches p).time (c.stepped_at t is_chosen branches p).timed (c.stepped_at t is_chosen branches p).tip (c.stepped_at t is_chosen branches p).cycles_left
 stepped-is P true branches t p h = h
 stepped-is P false branches t p h = h
 
@@ -147,7 +147,7 @@ record CanArrive (sys : System) (k : KernelState) (frame : List Val) (cycles t :
   delta : IsDelta sys k frame t timed tip false
   few : cycles + left ≤ 200000
 
-can-arrive : (sys : System) (k : KernelState) (frame : List Val) (cycles t : ℕ) (p : Place) → Goes sys k frame p.time p.timed → p.time ≤ t → p.tip.t ≤ t → t ≤ until_of (sys.next_time k.digital) sys.options.stop → cycles + p.cycles_left ≤ 200000 → CanArrive sys k frame cycles t p.timed p.tip p.cycles_left
+can-arrive : (sys : System) (k : KernelState) (frame : List Val) (cycles t : ℕ) (p : RunPlace) → Goes sys k frame p.time p.timed → p.time ≤ t → p.tip.t ≤ t → t ≤ until_of (sys.next_time k.digital) sys.options.stop → cycles + p.cycles_left ≤ 200000 → CanArrive sys k frame cycles t p.timed p.tip p.cycles_left
 can-arrive sys k frame cycles t p goes later tip until few =
     let old = goes.began in
     record {
@@ -161,19 +161,19 @@ can-arrive sys k frame cycles t p goes later tip until few =
       few = few;
     }
 
-pub stepped_begins : (sys : System) (k : KernelState) (frame : List Val) (cycles t : ℕ) (is_chosen : Bool) (branches : List ℕ) (p : Place) → PlaceFits sys p → length branches ≡ sys.choices → Goes sys k frame p.time p.timed → p.time ≤ t → p.tip.t ≤ t → t ≤ until_of (sys.next_time k.digital) sys.options.stop → cycles + p.cycles_left ≤ 200000 → Stands sys k frame cycles (c.began false (c.stepped_at t is_chosen branches p))
+pub stepped_begins : (sys : System) (k : KernelState) (frame : List Val) (cycles t : ℕ) (is_chosen : Bool) (branches : List ℕ) (p : RunPlace) → PlaceFits sys p → length branches ≡ sys.choices → Goes sys k frame p.time p.timed → p.time ≤ t → p.tip.t ≤ t → t ≤ until_of (sys.next_time k.digital) sys.options.stop → cycles + p.cycles_left ≤ 200000 → Stands sys k frame cycles (c.began false (c.stepped_at t is_chosen branches p))
 stepped_begins sys k frame cycles t is_chosen branches p fits room goes later tip until few =
     let most = until-least (sys.next_time k.digital) sys.options.stop in
     let can = stepped-is (CanArrive sys k frame cycles) is_chosen branches t p (can-arrive sys k frame cycles t p goes later tip until few) in
     began_stands sys k frame cycles false (c.stepped_at t is_chosen branches p) (stepped-fits sys is_chosen branches t p (omega arith) room fits) can.delta can.few
 
-pub stepped_arrives : (sys : System) (k : KernelState) (frame : List Val) (cycles t : ℕ) (is_chosen : Bool) (branches : List ℕ) (p : Place) → PlaceFits sys p → length branches ≡ sys.choices → Goes sys k frame p.time p.timed → p.time ≤ t → p.tip.t ≤ t → t ≤ until_of (sys.next_time k.digital) sys.options.stop → cycles + p.cycles_left ≤ 200000 → Stands sys k frame cycles (c.arrived_at (sys.next_time k.digital) (c.stepped_at t is_chosen branches p))
+pub stepped_arrives : (sys : System) (k : KernelState) (frame : List Val) (cycles t : ℕ) (is_chosen : Bool) (branches : List ℕ) (p : RunPlace) → PlaceFits sys p → length branches ≡ sys.choices → Goes sys k frame p.time p.timed → p.time ≤ t → p.tip.t ≤ t → t ≤ until_of (sys.next_time k.digital) sys.options.stop → cycles + p.cycles_left ≤ 200000 → Stands sys k frame cycles (c.arrived_at (sys.next_time k.digital) (c.stepped_at t is_chosen branches p))
 stepped_arrives sys k frame cycles t is_chosen branches p fits room goes later tip until few =
     let most = until-least (sys.next_time k.digital) sys.options.stop in
     let can = stepped-is (CanArrive sys k frame cycles) is_chosen branches t p (can-arrive sys k frame cycles t p goes later tip until few) in
     arrived_stands sys k frame cycles (c.stepped_at t is_chosen branches p) (stepped-fits sys is_chosen branches t p (omega arith) room fits) can.delta can.few
 
-pub search_stands : (sys : System) (k : KernelState) (frame : List Val) (cycles : ℕ) (is_chosen : Bool) (branches : List ℕ) (p : Place) → p.stage ≡ stages.InSearch → length branches ≡ sys.choices → Stands sys k frame cycles p → Stands sys k frame cycles (c.search_at is_chosen branches p)
+pub search_stands : (sys : System) (k : KernelState) (frame : List Val) (cycles : ℕ) (is_chosen : Bool) (branches : List ℕ) (p : RunPlace) → p.stage ≡ stages.InSearch → length branches ≡ sys.choices → Stands sys k frame cycles p → Stands sys k frame cycles (c.search_at is_chosen branches p)
 search_stands sys k frame cycles is_chosen branches p e room s =
     let search : IsSearch sys k frame p.time p.timed p.tip p.search = subst (λ x. StandsBy x sys k frame p) e s.stands in
     let few = s.few in

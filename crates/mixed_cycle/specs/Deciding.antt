@@ -12,7 +12,7 @@ use Rattle.lockstep_model.specs.Lockstep.{stands, until_of, branches_or}
 use Rattle.lockstep_model.specs.Crossing.{is_near}
 use Rattle.above_events.specs.Locating.{with_point}
 use Rattle.cycle_machine.specs.Ready.{decided}
-use Rattle.run_place.specs.declared.place.Place.{Place}
+use Rattle.run_place.specs.declared.place.RunPlace.{RunPlace}
 use Rattle.run_place.specs.declared.place.Stage.TheVariants as stages
 use Rattle.run_place.specs.Places.{held_of}
 use Rattle.run_place.specs.Giving.{chosen_of, olds_of}
@@ -24,22 +24,22 @@ use Rattle.mixed_cycle.specs.Decided.{placed_stands, delta_stands, phase_stands,
 use Rattle.mixed_cycle.specs.Machine.{Sound, Decides, moment_with}
 
 -- decisions keep the tip
-began-tip : (b : Bool) (p : Place) → (c.began b p).tip ≡ p.tip
+began-tip : (b : Bool) (p : RunPlace) → (c.began b p).tip ≡ p.tip
 began-tip b p =
     elim (p.cycles_left == 0) as (λ t. (cond t (c.end_with 75 p) (record p { stage = stages.InDelta b; cycles_left = p.cycles_left - 1 })).tip ≡ p.tip) [ true ↦ refl | false ↦ refl ]
 
-pub arrived_tip : (next : Option ℕ) (p : Place) → (c.arrived_at next p).tip ≡ p.tip
+pub arrived_tip : (next : Option ℕ) (p : RunPlace) → (c.arrived_at next p).tip ≡ p.tip
 arrived_tip next p =
     elim (stands next p.time) as (λ t. (cond t (c.began false p) (c.reached p)).tip ≡ p.tip) [ true ↦ began-tip false p | false ↦ refl ]
 
-deeper-tip : (b : Bool) (p : Place) → (c.deeper_at b p).tip ≡ p.tip
+deeper-tip : (b : Bool) (p : RunPlace) → (c.deeper_at b p).tip ≡ p.tip
 deeper-tip b p =
     elim (nat_le 1000 p.delta) as (λ t. (cond t (c.end_with 72 p) (c.began b (record p { delta = p.delta + 1 }))).tip ≡ p.tip) [
       | true ↦ refl
       | false ↦ began-tip b (record p { delta = p.delta + 1 })
     ]
 
-placed-tip : (next : Option ℕ) (frame : List Val) (stop : ℕ) (p : Place) → (c.placed_at next frame stop p).tip ≡ p.tip
+placed-tip : (next : Option ℕ) (frame : List Val) (stop : ℕ) (p : RunPlace) → (c.placed_at next frame stop p).tip ≡ p.tip
 placed-tip next frame stop p =
     let due = c.is_due_at p next frame in
     elim (due || not p.timed) as
@@ -48,10 +48,10 @@ placed-tip next frame stop p =
       | false ↦ elim (p.time == stop) as (λ t. (cond t (c.reached p) (record p { stage = stages.InPhase })).tip ≡ p.tip) [ true ↦ refl | false ↦ refl ]
     ]
 
-delta-tip : (b : Bool) (frame : List Val) (p : Place) → (c.delta_at b frame p).tip ≡ p.tip
+delta-tip : (b : Bool) (frame : List Val) (p : RunPlace) → (c.delta_at b frame p).tip ≡ p.tip
 delta-tip b frame p = elim (c.needs_at p frame) as (λ t. (cond t p (record p { stage = stages.InCycle b })).tip ≡ p.tip) [ true ↦ refl | false ↦ refl ]
 
-phase-tip : (next : Option ℕ) (stop : ℕ) (p : Place) → (c.phase_at next stop p).tip ≡ p.tip
+phase-tip : (next : Option ℕ) (stop : ℕ) (p : RunPlace) → (c.phase_at next stop p).tip ≡ p.tip
 phase-tip next stop p =
     elim (p.tip.t == until_of next stop) as (λ t. (cond t (c.arrived_at next (c.at_tip_at (until_of next stop) p)) (c.tried_at p)).tip ≡ p.tip) [
       | true ↦ arrived_tip next (c.at_tip_at (until_of next stop) p)
@@ -63,7 +63,7 @@ pub digital_going : (sys : System) (k : KernelState) → k.stage ≡ Going → d
 digital_going sys k e = ap (λ (s : KernelStage). digital_by s sys k.digital) e
 
 -- a machine whose place decided so
-decides_by : {D S K : Type 0} (sys : System) (part count : S → ℕ) (state : K → KernelState) (m : Machine D S K) (p : Place) → Sound sys part state m → held_of (digital_at sys (state m.kernel)) p ≡ decided sys (held_of (digital_at sys (state m.kernel)) m.place) → p.tip ≡ m.place.tip → Stands sys (state m.kernel) m.frame m.cycles p → Decides sys part count state m (record m { place = p })
+decides_by : {D S K : Type 0} (sys : System) (part count : S → ℕ) (state : K → KernelState) (m : Machine D S K) (p : RunPlace) → Sound sys part state m → held_of (digital_at sys (state m.kernel)) p ≡ decided sys (held_of (digital_at sys (state m.kernel)) m.place) → p.tip ≡ m.place.tip → Stands sys (state m.kernel) m.frame m.cycles p → Decides sys part count state m (record m { place = p })
 decides_by sys part count state m p s held tip stands =
     record {
       sound =
@@ -84,10 +84,10 @@ decides_by sys part count state m p s held tip stands =
       awaited_is = refl;
     }
 
-abbrev pub with_place : {D S K : Type 0} → Machine D S K → Place → Machine D S K
+abbrev pub with_place : {D S K : Type 0} → Machine D S K → RunPlace → Machine D S K
 with_place m p = record m { place = p }
 
-few-placed : (cycles : ℕ) (p : Place) → p.stage ≡ stages.Placed → cycles + cycles_ahead p ≤ 200000 → cycles + p.cycles_left ≤ 200000
+few-placed : (cycles : ℕ) (p : RunPlace) → p.stage ≡ stages.Placed → cycles + cycles_ahead p ≤ 200000 → cycles + p.cycles_left ≤ 200000
 few-placed cycles p e few =
     let sum : cycles + (p.cycles_left + pending stages.Placed) ≤ 200000 = subst (λ x. cycles + (p.cycles_left + pending x) ≤ 200000) e few in
     omega arith
@@ -132,7 +132,7 @@ phase_is_decided sys part count state m s e =
     (phase_stands sys k m.frame m.cycles m.place e s.stands)
 
 -- by what the kernel's next time was
-pub place_decides_by : {D S K : Type 0} (sys : System) (part count : S → ℕ) (state : K → KernelState) (m : Machine D S K) (next : Option ℕ) (p : Place) → Sound sys part state m → m.place.stage ≡ stages.Placed → ((state m.kernel).stage ≡ Going → next ≡ sys.next_time (state m.kernel).digital) → ((state m.kernel).stage ≡ Going → IfSome next (λ n. (state m.kernel).digital.time ≤ n)) → p ≡ c.placed_at next m.frame m.options.stop m.place → Decides sys part count state m (with_place m p)
+pub place_decides_by : {D S K : Type 0} (sys : System) (part count : S → ℕ) (state : K → KernelState) (m : Machine D S K) (next : Option ℕ) (p : RunPlace) → Sound sys part state m → m.place.stage ≡ stages.Placed → ((state m.kernel).stage ≡ Going → next ≡ sys.next_time (state m.kernel).digital) → ((state m.kernel).stage ≡ Going → IfSome next (λ n. (state m.kernel).digital.time ≤ n)) → p ≡ c.placed_at next m.frame m.options.stop m.place → Decides sys part count state m (with_place m p)
 place_decides_by sys part count state m next p s e value later is =
     let k = state m.kernel in
     let placed : IsPlaced sys k m.frame m.place.time m.place.timed m.place.tip = subst (λ x. StandsBy x sys k m.frame m.place) e s.stands.stands in
@@ -141,7 +141,7 @@ place_decides_by sys part count state m next p s e value later is =
     (sym (is ∙ ap (λ n. c.placed_at n m.frame m.options.stop m.place) at ∙ ap (λ (o : Options). c.placed_at (sys.next_time k.digital) m.frame o.stop m.place) s.options_are))
     (place_decides sys part count state m s e (subst (λ n. IfSome n (λ t. k.digital.time ≤ t)) at (later placed.goes.stage)))
 
-pub phase_decides_by : {D S K : Type 0} (sys : System) (part count : S → ℕ) (state : K → KernelState) (m : Machine D S K) (next : Option ℕ) (p : Place) → Sound sys part state m → m.place.stage ≡ stages.InPhase → ((state m.kernel).stage ≡ Going → next ≡ sys.next_time (state m.kernel).digital) → p ≡ c.phase_at next m.options.stop m.place → Decides sys part count state m (with_place m p)
+pub phase_decides_by : {D S K : Type 0} (sys : System) (part count : S → ℕ) (state : K → KernelState) (m : Machine D S K) (next : Option ℕ) (p : RunPlace) → Sound sys part state m → m.place.stage ≡ stages.InPhase → ((state m.kernel).stage ≡ Going → next ≡ sys.next_time (state m.kernel).digital) → p ≡ c.phase_at next m.options.stop m.place → Decides sys part count state m (with_place m p)
 phase_decides_by sys part count state m next p s e value is =
     let k = state m.kernel in
     let phase : IsPhase sys k m.frame m.place.time m.place.timed m.place.tip = subst (λ x. StandsBy x sys k m.frame m.place) e s.stands.stands in
@@ -150,12 +150,12 @@ phase_decides_by sys part count state m next p s e value is =
     (sym (is ∙ ap (λ n. c.phase_at n m.options.stop m.place) at ∙ ap (λ (o : Options). c.phase_at (sys.next_time k.digital) o.stop m.place) s.options_are))
     (phase_is_decided sys part count state m s e)
 
-pub delta_decides_by : {D S K : Type 0} (sys : System) (part count : S → ℕ) (state : K → KernelState) (m : Machine D S K) (to_time : Bool) (p : Place) → Sound sys part state m → m.place.stage ≡ stages.InDelta to_time → p ≡ c.delta_at to_time m.frame m.place → Decides sys part count state m (with_place m p)
+pub delta_decides_by : {D S K : Type 0} (sys : System) (part count : S → ℕ) (state : K → KernelState) (m : Machine D S K) (to_time : Bool) (p : RunPlace) → Sound sys part state m → m.place.stage ≡ stages.InDelta to_time → p ≡ c.delta_at to_time m.frame m.place → Decides sys part count state m (with_place m p)
 delta_decides_by sys part count state m to_time p s e is =
     subst (λ q. Decides sys part count state m (with_place m q)) (sym is) (delta_is_decided sys part count state m to_time s e)
 
 -- a search that isn't at its end chooses nothing
-search-tip : (is_chosen : Bool) (branches : List ℕ) (p : Place) → (c.search_at is_chosen branches p).tip ≡ p.tip
+search-tip : (is_chosen : Bool) (branches : List ℕ) (p : RunPlace) → (c.search_at is_chosen branches p).tip ≡ p.tip
 search-tip is_chosen branches p =
     elim (is_near p.search.xres (with_point p.search p.at_hi)) as
     (λ t. (cond t (c.began false (c.stepped_at p.search.hi is_chosen branches p)) (c.tried_at p)).tip ≡ p.tip) [
@@ -163,11 +163,11 @@ search-tip is_chosen branches p =
       | false ↦ elim (p.tries_left == 0) as (λ t. (cond t (c.end_with 76 p) p).tip ≡ p.tip) [ true ↦ refl | false ↦ refl ]
     ]
   where
-    chosen-tip : (is_chosen : Bool) (branches : List ℕ) (p : Place) → (c.chosen_at is_chosen branches p).tip ≡ p.tip
+    chosen-tip : (is_chosen : Bool) (branches : List ℕ) (p : RunPlace) → (c.chosen_at is_chosen branches p).tip ≡ p.tip
     chosen-tip true branches p = refl
     chosen-tip false branches p = refl
 
-pub search_decides_by : {D S K : Type 0} (sys : System) (part count : S → ℕ) (state : K → KernelState) (m : Machine D S K) (is_chosen : Bool) (branches : List ℕ) (p : Place) → Sound sys part state m → m.place.stage ≡ stages.InSearch → length branches ≡ sys.choices →
+pub search_decides_by : {D S K : Type 0} (sys : System) (part count : S → ℕ) (state : K → KernelState) (m : Machine D S K) (is_chosen : Bool) (branches : List ℕ) (p : RunPlace) → Sound sys part state m → m.place.stage ≡ stages.InSearch → length branches ≡ sys.choices →
     chosen_of is_chosen branches (olds_of m.place) ≡ branches_or (olds_of m.place) (sys.choose m.frame m.place.tip.t Timed m.place.tip.x) →
     p ≡ c.search_at is_chosen branches m.place → Decides sys part count state m (with_place m p)
 search_decides_by sys part count state m is_chosen branches p s e fits chosen is =

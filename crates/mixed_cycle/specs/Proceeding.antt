@@ -18,7 +18,7 @@ use Rattle.cycle_machine.specs.Held as h
 use Rattle.cycle_machine.specs.Held.{Held, Step, Stops, Makes, next_of, next_by, rest_of}
 use Rattle.cycle_machine.specs.Ready.{IsReady, ready_ready}
 use Rattle.cycle_machine.specs.Moves.{Moment, IsTried, AheadOf, walk_with, proceed, proceed_by}
-use Rattle.run_place.specs.declared.place.Place.{Place}
+use Rattle.run_place.specs.declared.place.RunPlace.{RunPlace}
 use Rattle.run_place.specs.declared.place.Stage.{Stage}
 use Rattle.run_place.specs.declared.place.Stage.TheVariants as stages
 use Rattle.run_place.specs.Places.{stage_of, state_of, held_of}
@@ -42,7 +42,7 @@ is_ready sys part count state a b r =
     subst (λ (m : Moment). IsReady (next_of sys m.held)) (sym r.moment) (ready_ready sys (moment_of sys state a).held)
 
 -- a place isn't ready
-pub not_placed : (sys : System) (d : Digital) (p : Place) → p.stage ≡ stages.Placed → IsReady (next_of sys (held_of d p)) → ⊥
+pub not_placed : (sys : System) (d : Digital) (p : RunPlace) → p.stage ≡ stages.Placed → IsReady (next_of sys (held_of d p)) → ⊥
 not_placed sys d p e r =
     subst (λ (s : Stage). IsReady (next_by (stage_of s p.search p.at_hi) sys p.cycles_left p.tries_left (state_of d p))) e r
 

@@ -26,7 +26,7 @@ use Rattle.above_events.specs.Locating.{Span, with_point}
 use Rattle.cycle_machine.specs.Held as h
 use Rattle.cycle_machine.specs.Held.{Held, Step, Makes, next_of, next_by}
 use Rattle.cycle_machine.specs.Ready.{IsReady}
-use Rattle.run_place.specs.declared.place.Place.{Place}
+use Rattle.run_place.specs.declared.place.RunPlace.{RunPlace}
 use Rattle.run_place.specs.declared.place.Stage.{Stage}
 use Rattle.run_place.specs.declared.place.Stage.TheVariants as stages
 use Rattle.run_place.specs.Places.{stage_of, state_of, held_of}
@@ -53,16 +53,16 @@ by-search false (suc n) sys c q b r =
     less : (n : ℕ) → n ≡ suc n - 1
     less n = omega arith
 
-at-stage : (sys : System) (d : Digital) (p : Place) → p.stage ≡ stages.InSearch → next_of sys (held_of d p) ≡ h.search_by (is_near sys.options.xres (with_point p.search p.at_hi)) sys p.cycles_left p.tries_left (state_of d p) (with_point p.search p.at_hi)
+at-stage : (sys : System) (d : Digital) (p : RunPlace) → p.stage ≡ stages.InSearch → next_of sys (held_of d p) ≡ h.search_by (is_near sys.options.xres (with_point p.search p.at_hi)) sys p.cycles_left p.tries_left (state_of d p) (with_point p.search p.at_hi)
 at-stage sys d p e = ap (λ (s : Stage). next_by (stage_of s p.search p.at_hi) sys p.cycles_left p.tries_left (state_of d p)) e
 
-pub can_probe : (sys : System) (d : Digital) (p : Place) → p.stage ≡ stages.InSearch → p.search.xres ≡ sys.options.xres → IsReady (next_of sys (held_of d p)) → CanProbe p.search.xres (with_point p.search p.at_hi) p.tries_left
+pub can_probe : (sys : System) (d : Digital) (p : RunPlace) → p.stage ≡ stages.InSearch → p.search.xres ≡ sys.options.xres → IsReady (next_of sys (held_of d p)) → CanProbe p.search.xres (with_point p.search p.at_hi) p.tries_left
 can_probe sys d p e fine r =
     let b = with_point p.search p.at_hi in
     let by = by-search (is_near sys.options.xres b) p.tries_left sys p.cycles_left (state_of d p) b (subst IsReady (at-stage sys d p e) r) in
     record { far = ap (λ (x : ℕ). is_near x b) fine ∙ by.0; some = by.1 }
 
-probe-next : (sys : System) (d : Digital) (p : Place) → p.stage ≡ stages.InSearch → IsReady (next_of sys (held_of d p)) →
+probe-next : (sys : System) (d : Digital) (p : RunPlace) → p.stage ≡ stages.InSearch → IsReady (next_of sys (held_of d p)) →
     next_of sys (held_of d p) ≡ Makes (state_of d p) (Worked kinds.Probe (l.bound_events sys (state_of d p) (l.probed sys (state_of d p) (with_point p.search p.at_hi))) false (l.standing sys (state_of d p))) (h.at (h.InSearch (l.probed sys (state_of d p) (with_point p.search p.at_hi))) p.cycles_left (p.tries_left - 1) (state_of d p))
 probe-next sys d p e r =
     let b = with_point p.search p.at_hi in
@@ -113,7 +113,7 @@ can_step sys part state m s =
     record { frame_fits = s.frame_fits; point_fits = s.stands.fits.tip_fits; within = omega arith }
 
 -- what a probe asks of its caller
-pub record ProbeNeeds (sys : System) (frame : List Val) (p : Place) : Type 0 where
+pub record ProbeNeeds (sys : System) (frame : List Val) (p : RunPlace) : Type 0 where
   pub far : is_near p.search.xres (with_point p.search p.at_hi) ≡ false
   pub gap : p.search.xres < p.search.hi - p.search.lo
   pub order : p.tip.t ≤ p.search.lo
@@ -142,7 +142,7 @@ probe_needs sys part state m s e r =
     }
 
 -- a probe was made
-pub probe_done : {D S K : Type 0} (sys : System) (part count : S → ℕ) (state : K → KernelState) (m : Machine D S K) (s' : S) (bs : List ℕ) (x : List ℤ) (span : Span) (at_hi : List ℤ) (is_chosen : Bool) (P : Place) (out out' : List Event)
+pub probe_done : {D S K : Type 0} (sys : System) (part count : S → ℕ) (state : K → KernelState) (m : Machine D S K) (s' : S) (bs : List ℕ) (x : List ℤ) (span : Span) (at_hi : List ℤ) (is_chosen : Bool) (P : RunPlace) (out out' : List Event)
     → Sound sys part state m → m.awaited ≡ Ready → m.place.stage ≡ stages.InSearch
     → IsReady (next_of sys (held_of (digital_at sys (state m.kernel)) m.place))
     → part s' ≡ 0 → count s' ≡ more (count m.stepper) → length bs ≡ sys.choices → length x ≡ sys.unknowns → length at_hi ≡ sys.unknowns
@@ -170,10 +170,10 @@ probe_done {D = D} {S = S} {K = K} sys part count state m s' bs x span at_hi is_
     chosen ∙ ap (λ (f : List Val). l.branches_or (olds_of p) (sys.choose f p.tip.t Timed p.tip.x)) is in
     let next : next_of sys (held_of (digital_at sys k) p) ≡ Makes q (Worked kinds.Probe (l.bound_events sys q (l.probed sys q b)) false (l.standing sys q)) (h.at (h.InSearch (l.probed sys q b)) p.cycles_left (p.tries_left - 1) q) =
     subst (λ (y : Digital). next_of sys (held_of y p) ≡ Makes q (Worked kinds.Probe (l.bound_events sys q (l.probed sys q b)) false (l.standing sys q)) (h.at (h.InSearch (l.probed sys q b)) p.cycles_left (p.tries_left - 1) q)) (sym going) (probe-next sys d p e ready) in
-    let P' : Place = record p { search = span; at_hi = at_hi; tries_left = p.tries_left - 1 } in
+    let P' : RunPlace = record p { search = span; at_hi = at_hi; tries_left = p.tries_left - 1 } in
     let held : held_of (digital_at sys k) P ≡ h.at (h.InSearch (l.probed sys q b)) p.cycles_left (p.tries_left - 1) q =
     ap (λ (y : Digital). held_of y P) going
-    ∙ ap (λ (y : Place). held_of d y) left
+    ∙ ap (λ (y : RunPlace). held_of d y) left
     ∙ ap (λ (st : Stage). h.at (stage_of st span at_hi) p.cycles_left (p.tries_left - 1) q) e
     ∙ ap (λ (y : Bounds). h.at (h.InSearch y) p.cycles_left (p.tries_left - 1) q) probed in
     let xres : span.xres ≡ sys.options.xres = fine ∙ search.distance in
@@ -188,14 +188,14 @@ probe_done {D = D} {S = S} {K = K} sys part count state m s' bs x span at_hi is_
     next
     (ap (λ (y : Held). h.rest_of sys y) held)
     awaits
-    (ap (λ (y : Place). y.tip) left)
+    (ap (λ (y : RunPlace). y.tip) left)
     is
     refl
     (sym (none-more m.cycles))
     (still_sound sys part state m m' s part_is refl
     (record { asked = s.room.asked; frame = s.room.frame; made = s.room.made; x = px; branches = pb; new_frame = s.room.new_frame })
     s.frame_fits
-    (subst (λ (y : Place). Stands sys k m.frame m.cycles y) (sym left)
+    (subst (λ (y : RunPlace). Stands sys k m.frame m.cycles y) (sym left)
     (record {
       fits = record { time_most = f.time_most; point_fits = f.point_fits; tip_fits = f.tip_fits; tip_most = f.tip_most; step = f.step; at_hi_fits = pa; solved_fits = f.solved_fits; elements = f.elements; branches_fit = f.branches_fit };
       stands =

@@ -21,7 +21,7 @@ use Rattle.cycle_machine.specs.Held as h
 use Rattle.cycle_machine.specs.Held.{Held, Step, next_of, next_by}
 use Rattle.cycle_machine.specs.Ready.{ready}
 use Rattle.cycle_machine.specs.Moves.{Moment, Moving, is_over, made_ready, proceed, settle, walk_of}
-use Rattle.run_place.specs.declared.place.Place.{Place}
+use Rattle.run_place.specs.declared.place.RunPlace.{RunPlace}
 use Rattle.run_place.specs.declared.place.Stage.{Stage}
 use Rattle.run_place.specs.declared.place.Stage.TheVariants as stages
 use Rattle.run_place.specs.Places.{stage_of, state_of}
@@ -85,7 +85,7 @@ search-goes true n sys c q b = refl
 search-goes false zero sys c q b = refl
 search-goes false (suc n) sys c q b = refl
 
-over-by : (s : Stage) (sys : System) (d : Digital) (p : Place) → is_over (next_by (stage_of s p.search p.at_hi) sys p.cycles_left p.tries_left (state_of d p)) ≡ is_finished s
+over-by : (s : Stage) (sys : System) (d : Digital) (p : RunPlace) → is_over (next_by (stage_of s p.search p.at_hi) sys p.cycles_left p.tries_left (state_of d p)) ≡ is_finished s
 over-by stages.Unstarted sys d p = start-goes (l.first_cycle sys).ran sys
 over-by stages.Placed sys d p = refl
 over-by (stages.InDelta to_time) sys d p = delta-goes (l.needs_solution sys (state_of d p)) sys to_time p.cycles_left p.tries_left (state_of d p)

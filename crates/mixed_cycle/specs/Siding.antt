@@ -27,7 +27,7 @@ use Rattle.lockstep_model.specs.declared.moves.Ask.TheVariants as asks
 use Rattle.cycle_machine.specs.Held as h
 use Rattle.cycle_machine.specs.Held.{Held, Makes, Step, next_of, next_by}
 use Rattle.cycle_machine.specs.Ready.{IsReady}
-use Rattle.run_place.specs.declared.place.Place.{Place}
+use Rattle.run_place.specs.declared.place.RunPlace.{RunPlace}
 use Rattle.run_place.specs.declared.place.Stage.{Stage}
 use Rattle.run_place.specs.declared.place.Stage.TheVariants as stages
 use Rattle.run_place.specs.Places.{stage_of, state_of, held_of}
@@ -55,16 +55,16 @@ by-phase false false (suc n) sys c q far r = (refl, omega arith, ap (λ k. h.sid
     less : (n : ℕ) → n ≡ suc n - 1
     less n = omega arith
 
-at-phase : (sys : System) (d : Digital) (p : Place) → p.stage ≡ stages.InPhase → next_of sys (held_of d p) ≡ h.phase_next sys p.cycles_left p.tries_left (state_of d p)
+at-phase : (sys : System) (d : Digital) (p : RunPlace) → p.stage ≡ stages.InPhase → next_of sys (held_of d p) ≡ h.phase_next sys p.cycles_left p.tries_left (state_of d p)
 at-phase sys d p e = ap (λ (s : Stage). next_by (stage_of s p.search p.at_hi) sys p.cycles_left p.tries_left (state_of d p)) e
 
 -- a side step is the next thing, with a try that is left
-pub record SidesNext (sys : System) (d : Digital) (p : Place) : Type 0 where
+pub record SidesNext (sys : System) (d : Digital) (p : RunPlace) : Type 0 where
   pub apart : l.is_there sys (state_of d p) ≡ false
   pub some : 1 ≤ p.tries_left
   pub next : next_of sys (held_of d p) ≡ h.sided (l.side_at sys (state_of d p)) sys p.cycles_left (p.tries_left - 1) (state_of d p)
 
-pub sides_next : (sys : System) (d : Digital) (p : Place) → p.stage ≡ stages.InPhase → l.ends_in_time sys (state_of d p) ≡ false → IsReady (next_of sys (held_of d p)) → SidesNext sys d p
+pub sides_next : (sys : System) (d : Digital) (p : RunPlace) → p.stage ≡ stages.InPhase → l.ends_in_time sys (state_of d p) ≡ false → IsReady (next_of sys (held_of d p)) → SidesNext sys d p
 sides_next sys d p e far r =
     let q = state_of d p in
     let by = by-phase (l.is_there sys q) (l.ends_in_time sys q) p.tries_left sys p.cycles_left q far (subst IsReady (at-phase sys d p e) r) in
@@ -81,7 +81,7 @@ pub record SideBegins {D S K : Type 0} (sys : System) (part : S → ℕ) (state 
   pub t_is : t ≡ l.until_of next m.options.stop
 
 -- what follows from it
-pub record SideWay (sys : System) (k : KernelState) (frame : List Val) (cycles : ℕ) (p : Place) (next : Option ℕ) (t : ℕ) : Type 0 where
+pub record SideWay (sys : System) (k : KernelState) (frame : List Val) (cycles : ℕ) (p : RunPlace) (next : Option ℕ) (t : ℕ) : Type 0 where
   pub digital : digital_at sys k ≡ k.digital
   pub phase : IsPhase sys k frame p.time p.timed p.tip
   pub next_is : next ≡ sys.next_time k.digital
@@ -168,11 +168,11 @@ half-most : (step h hmax : ℕ) → step ≤ h → h ≤ hmax → step / 2 ≤ h
 half-most step h hmax low most = omega arith
 
 -- one try less is left, and other values are at the later bound
-abbrev pub counted_at : List ℤ → Place → Place
+abbrev pub counted_at : List ℤ → RunPlace → RunPlace
 counted_at at_hi p = record p { tries_left = p.tries_left - 1; at_hi = at_hi }
 
 -- a side step was refused
-pub side_refused : {D S K : Type 0} (sys : System) (part count : S → ℕ) (state : K → KernelState) (m : Machine D S K) (next : Option ℕ) (t : ℕ) (s' : S) (x : List ℤ) (cause : Cause) (small : Bool) (P : Place) (said : Moved) (out : List Event)
+pub side_refused : {D S K : Type 0} (sys : System) (part count : S → ℕ) (state : K → KernelState) (m : Machine D S K) (next : Option ℕ) (t : ℕ) (s' : S) (x : List ℤ) (cause : Cause) (small : Bool) (P : RunPlace) (said : Moved) (out : List Event)
     → SideBegins sys part state m next t
     → part s' ≡ 0 → count s' ≡ more (count m.stepper) → length x ≡ sys.unknowns
     → trials.Refused cause ≡ trial_answer (sys.trial m.frame m.place.tip (t - m.place.tip.t))
@@ -196,7 +196,7 @@ side_refused {D = D} {S = S} {K = K} sys part count state m next t s' x cause sm
     ∙ ap (λ (b : Bool). h.refused_by b sys p.cycles_left (p.tries_left - 1) q cause) (sym is_small) in
     refused-by sys part count state m next t s' x cause small P said out g way part_is made fits next_is smaller left saying
   where
-    refused-by : {D S K : Type 0} (sys : System) (part count : S → ℕ) (state : K → KernelState) (m : Machine D S K) (next : Option ℕ) (t : ℕ) (s' : S) (x : List ℤ) (cause : Cause) (small : Bool) (P : Place) (said : Moved) (out : List Event)
+    refused-by : {D S K : Type 0} (sys : System) (part count : S → ℕ) (state : K → KernelState) (m : Machine D S K) (next : Option ℕ) (t : ℕ) (s' : S) (x : List ℤ) (cause : Cause) (small : Bool) (P : RunPlace) (said : Moved) (out : List Event)
         → SideBegins sys part state m next t → SideWay sys (state m.kernel) m.frame m.cycles m.place next t
         → part s' ≡ 0 → count s' ≡ more (count m.stepper) → length x ≡ sys.unknowns
         → next_of sys (held_of (digital_at sys (state m.kernel)) m.place) ≡ h.refused_by small sys m.place.cycles_left (m.place.tries_left - 1) (state_of (state m.kernel).digital m.place) cause
@@ -213,17 +213,17 @@ side_refused {D = D} {S = S} {K = K} sys part count state m next t s' x cause sm
         let m' : Machine D S K = record m { stepper = s'; x = x; place = P } in
         work_done sys part count state m m' out out q kinds.Side [] false (l.standing sys q) (h.ended (l.step_too_small (l.until sys q) cause) p.cycles_left (p.tries_left - 1) q) said
         next_is
-        (ap (λ (y : Place). h.rest_of sys (held_of (digital_at sys k) y)) left
+        (ap (λ (y : RunPlace). h.rest_of sys (held_of (digital_at sys k) y)) left
         ∙ ap (λ (u : ℕ). h.rest_of sys (held_of (digital_at sys k) (too_small u cause.code p))) way.t_is)
         g.awaits
-        (ap (λ (y : Place). y.tip) left)
+        (ap (λ (y : RunPlace). y.tip) left)
         way.phase.goes.frame_is
         refl
         (none-more m.cycles)
         (still_sound sys part state m m' s part_is refl
         (record { asked = s.room.asked; frame = s.room.frame; made = s.room.made; x = fits; branches = s.room.branches; new_frame = s.room.new_frame })
         s.frame_fits
-        (subst (λ (y : Place). Stands sys k m.frame m.cycles y) (sym left)
+        (subst (λ (y : RunPlace). Stands sys k m.frame m.cycles y) (sym left)
         (record { fits = s.stands.fits; stands = tt; few = omega arith })))
         made
         saying
@@ -241,17 +241,17 @@ side_refused {D = D} {S = S} {K = K} sys part count state m next t s' x cause sm
         work_done sys part count state m m' out out q kinds.Side [] true (l.standing sys (l.side_refused sys q)) (h.at h.InPhase p.cycles_left (p.tries_left - 1) (l.side_refused sys q)) said
         next_is
         (ap (λ (y : Digital). h.rest_of sys (held_of y P)) way.digital
-        ∙ ap (λ (y : Place). h.rest_of sys (held_of k.digital y)) (left ∙ halved)
+        ∙ ap (λ (y : RunPlace). h.rest_of sys (held_of k.digital y)) (left ∙ halved)
         ∙ ap (λ (st : Stage). h.rest_of sys (h.at (stage_of st p.search p.at_hi) p.cycles_left (p.tries_left - 1) (l.side_refused sys q))) g.stage)
         g.awaits
-        (ap (λ (y : Place). y.tip) (left ∙ halved))
+        (ap (λ (y : RunPlace). y.tip) (left ∙ halved))
         way.phase.goes.frame_is
         refl
         (none-more m.cycles)
         (still_sound sys part state m m' s part_is refl
         (record { asked = s.room.asked; frame = s.room.frame; made = s.room.made; x = fits; branches = s.room.branches; new_frame = s.room.new_frame })
         s.frame_fits
-        (subst (λ (y : Place). Stands sys k m.frame m.cycles y) (sym left)
+        (subst (λ (y : RunPlace). Stands sys k m.frame m.cycles y) (sym left)
         (record {
           fits =
               record {
@@ -317,7 +317,7 @@ lands-next sys part count state m next t s' bs x at_hi is_chosen crosses g way =
     ∙ accepted-is crosses sys p.cycles_left (p.tries_left - 1) q s
 
 -- the events are those that were given
-lands-events : (crosses : Bool) (sys : System) (d : Digital) (p : Place) (t xres : ℕ) (is_chosen : Bool) (bs : List ℕ) (at_hi : List ℤ) (s : Landing) → t ≡ l.until sys (state_of d p) → xres ≡ sys.options.xres → at_hi ≡ s.x → chosen_of is_chosen bs (olds_of p) ≡ l.step_branches sys (state_of d p) →
+lands-events : (crosses : Bool) (sys : System) (d : Digital) (p : RunPlace) (t xres : ℕ) (is_chosen : Bool) (bs : List ℕ) (at_hi : List ℤ) (s : Landing) → t ≡ l.until sys (state_of d p) → xres ≡ sys.options.xres → at_hi ≡ s.x → chosen_of is_chosen bs (olds_of p) ≡ l.step_branches sys (state_of d p) →
     landed_events crosses t xres is_chosen bs (counted_at at_hi p) ≡ events_by crosses sys (state_of d p) s
 lands-events true sys d p t xres is_chosen bs at_hi s t_is xres_is point branches =
     let q = state_of d p in
@@ -332,12 +332,12 @@ lands-events false sys d p t xres is_chosen bs at_hi s t_is xres_is point branch
     ∙ ap (λ (bs' : List ℕ). l.point_events (l.until sys q) 0 at_hi bs' (olds_of p)) branches
     ∙ ap (λ (y : List ℤ). l.point_events (l.until sys q) 0 y (l.step_branches sys q) (olds_of p)) point
 
-chosen-keeps : (is_chosen : Bool) (bs : List ℕ) (p : Place) → ((c.chosen_at is_chosen bs p).cycles_left ≡ p.cycles_left) × ((c.chosen_at is_chosen bs p).tries_left ≡ p.tries_left) × ((c.chosen_at is_chosen bs p).tip ≡ p.tip)
+chosen-keeps : (is_chosen : Bool) (bs : List ℕ) (p : RunPlace) → ((c.chosen_at is_chosen bs p).cycles_left ≡ p.cycles_left) × ((c.chosen_at is_chosen bs p).tries_left ≡ p.tries_left) × ((c.chosen_at is_chosen bs p).tip ≡ p.tip)
 chosen-keeps true bs p = (refl, refl, refl)
 chosen-keeps false bs p = (refl, refl, refl)
 
 -- and so is what is held
-lands-held : (crosses : Bool) (sys : System) (d : Digital) (p : Place) (next : Option ℕ) (t xres : ℕ) (is_chosen : Bool) (bs : List ℕ) (at_hi : List ℤ) (s : Landing) → next ≡ sys.next_time d → t ≡ l.until sys (state_of d p) → at_hi ≡ s.x → chosen_of is_chosen bs (olds_of p) ≡ l.step_branches sys (state_of d p) →
+lands-held : (crosses : Bool) (sys : System) (d : Digital) (p : RunPlace) (next : Option ℕ) (t xres : ℕ) (is_chosen : Bool) (bs : List ℕ) (at_hi : List ℤ) (s : Landing) → next ≡ sys.next_time d → t ≡ l.until sys (state_of d p) → at_hi ≡ s.x → chosen_of is_chosen bs (olds_of p) ≡ l.step_branches sys (state_of d p) →
     held_of d (landed_left crosses t xres next is_chosen bs (counted_at at_hi p)) ≡ held_by crosses sys p.cycles_left (p.tries_left - 1) (state_of d p) s
 lands-held true sys d p next t xres is_chosen bs at_hi s next_is t_is point branches =
     let q = state_of d p in
@@ -345,7 +345,7 @@ lands-held true sys d p next t xres is_chosen bs at_hi s next_is t_is point bran
     ∙ ap (λ (y : List ℤ). h.at (h.InSearch (l.crossing_bounds q (l.until sys q) y)) p.cycles_left (p.tries_left - 1) q) point
 lands-held false sys d p next t xres is_chosen bs at_hi s next_is t_is point branches =
     let q = state_of d p in
-    let P : Place = c.stepped_at t is_chosen bs (counted_at at_hi p) in
+    let P : RunPlace = c.stepped_at t is_chosen bs (counted_at at_hi p) in
     let keeps = chosen-keeps is_chosen bs (record (counted_at at_hi p) { time = t; delta = 0; point = at_hi; at_hi = p.point }) in
     ap (λ (n : Option ℕ). held_of d (c.arrived_at n P)) next_is
     ∙ arrived_is sys d P
@@ -355,7 +355,7 @@ lands-held false sys d p next t xres is_chosen bs at_hi s next_is t_is point bra
     ∙ ap (λ (u : ℕ). h.arrived sys p.cycles_left (p.tries_left - 1) (l.stepped_to sys q u at_hi)) t_is
     ∙ ap (λ (y : List ℤ). h.arrived sys p.cycles_left (p.tries_left - 1) (l.stepped_to sys q (l.until sys q) y)) point
 
-lands-tip : (crosses : Bool) (sys : System) (d : Digital) (p : Place) (next : Option ℕ) (t xres : ℕ) (is_chosen : Bool) (bs : List ℕ) (at_hi : List ℤ) (s : Landing) → (landed_left crosses t xres next is_chosen bs (counted_at at_hi p)).tip ≡ (standing_by crosses sys (state_of d p) s).tip
+lands-tip : (crosses : Bool) (sys : System) (d : Digital) (p : RunPlace) (next : Option ℕ) (t xres : ℕ) (is_chosen : Bool) (bs : List ℕ) (at_hi : List ℤ) (s : Landing) → (landed_left crosses t xres next is_chosen bs (counted_at at_hi p)).tip ≡ (standing_by crosses sys (state_of d p) s).tip
 lands-tip true sys d p next t xres is_chosen bs at_hi s = refl
 lands-tip false sys d p next t xres is_chosen bs at_hi s =
     let keeps = chosen-keeps is_chosen bs (record (counted_at at_hi p) { time = t; delta = 0; point = at_hi; at_hi = p.point }) in
@@ -365,7 +365,7 @@ lands-frame : (crosses : Bool) (sys : System) (q : RunState) (s : Landing) → (
 lands-frame true sys q s = refl
 lands-frame false sys q s = refl
 
-lands-stands : (crosses : Bool) (sys : System) (k : KernelState) (frame : List Val) (cycles : ℕ) (p : Place) (next : Option ℕ) (t xres : ℕ) (is_chosen : Bool) (bs : List ℕ) (at_hi : List ℤ) → PlaceFits sys p → SideWay sys k frame cycles p next t → xres ≡ sys.options.xres → length bs ≡ sys.choices → length at_hi ≡ sys.unknowns →
+lands-stands : (crosses : Bool) (sys : System) (k : KernelState) (frame : List Val) (cycles : ℕ) (p : RunPlace) (next : Option ℕ) (t xres : ℕ) (is_chosen : Bool) (bs : List ℕ) (at_hi : List ℤ) → PlaceFits sys p → SideWay sys k frame cycles p next t → xres ≡ sys.options.xres → length bs ≡ sys.choices → length at_hi ≡ sys.unknowns →
     Stands sys k frame cycles (landed_left crosses t xres next is_chosen bs (counted_at at_hi p))
 lands-stands true sys k frame cycles p next t xres is_chosen bs at_hi f way xres_is room fits =
     let few = way.few in
@@ -386,7 +386,7 @@ lands-stands false sys k frame cycles p next t xres is_chosen bs at_hi f way xre
     room way.phase.goes (omega arith) (omega arith) (omega arith) few)
 
 -- a side step landed
-pub side_landed : {D S K : Type 0} (sys : System) (part count : S → ℕ) (state : K → KernelState) (m : Machine D S K) (next : Option ℕ) (t : ℕ) (s' : S) (bs : List ℕ) (x at_hi : List ℤ) (is_chosen crosses : Bool) (P : Place) (out out' : List Event)
+pub side_landed : {D S K : Type 0} (sys : System) (part count : S → ℕ) (state : K → KernelState) (m : Machine D S K) (next : Option ℕ) (t : ℕ) (s' : S) (bs : List ℕ) (x at_hi : List ℤ) (is_chosen crosses : Bool) (P : RunPlace) (out out' : List Event)
     → SideLands sys part count state m next t s' bs x at_hi is_chosen crosses
     → P ≡ landed_left crosses t m.options.xres next is_chosen bs (counted_at at_hi m.place)
     → out' ≡ out ++ landed_events crosses t m.options.xres is_chosen bs (counted_at at_hi m.place)
@@ -404,21 +404,21 @@ side_landed {D = D} {S = S} {K = K} sys part count state m next t s' bs x at_hi 
     let xres : m.options.xres ≡ sys.options.xres = ap (λ (y : Options). y.xres) s.options_are in
     let held : held_of (digital_at sys k) P ≡ held_by crosses sys p.cycles_left (p.tries_left - 1) q o =
     ap (λ (y : Digital). held_of y P) way.digital
-    ∙ ap (λ (y : Place). held_of d y) left
+    ∙ ap (λ (y : RunPlace). held_of d y) left
     ∙ lands-held crosses sys d p next t m.options.xres is_chosen bs at_hi o way.next_is way.t_is g.lands.point branches in
     let m' : Machine D S K = record m { stepper = s'; branches = bs; x = x; place = P } in
     work_done sys part count state m m' out out' q kinds.Side (events_by crosses sys q o) false (standing_by crosses sys q o) (held_by crosses sys p.cycles_left (p.tries_left - 1) q o) (says.Ask asks.None)
     (lands-next sys part count state m next t s' bs x at_hi is_chosen crosses g way)
     (ap (λ (y : Held). h.rest_of sys y) held)
     g.begins.awaits
-    (ap (λ (y : Place). y.tip) left ∙ lands-tip crosses sys d p next t m.options.xres is_chosen bs at_hi o)
+    (ap (λ (y : RunPlace). y.tip) left ∙ lands-tip crosses sys d p next t m.options.xres is_chosen bs at_hi o)
     (way.phase.goes.frame_is ∙ sym (lands-frame crosses sys q o))
     refl
     (none-more m.cycles)
     (still_sound sys part state m m' s g.part_is refl
     (record { asked = s.room.asked; frame = s.room.frame; made = s.room.made; x = g.x_fits; branches = g.branches_fit; new_frame = s.room.new_frame })
     s.frame_fits
-    (subst (λ (y : Place). Stands sys k m.frame m.cycles y) (sym left)
+    (subst (λ (y : RunPlace). Stands sys k m.frame m.cycles y) (sym left)
     (lands-stands crosses sys k m.frame m.cycles p next t m.options.xres is_chosen bs at_hi s.stands.fits way xres g.branches_fit g.at_hi_fits)))
     g.made
     refl

@@ -26,7 +26,7 @@ use Rattle.lockstep_model.specs.Works as kinds
 use Rattle.cycle_machine.specs.Held as h
 use Rattle.cycle_machine.specs.Held.{Held, Step, Makes, next_of, next_by}
 use Rattle.cycle_machine.specs.Ready.{IsReady}
-use Rattle.run_place.specs.declared.place.Place.{Place}
+use Rattle.run_place.specs.declared.place.RunPlace.{RunPlace}
 use Rattle.run_place.specs.declared.place.Stage.{Stage}
 use Rattle.run_place.specs.declared.place.Stage.TheVariants as stages
 use Rattle.run_place.specs.Places.{stage_of, state_of, held_of}
@@ -45,7 +45,7 @@ by-solution : (needs : Bool) (sys : System) (to_time : Bool) (c n : ℕ) (q : Ru
 by-solution true sys to_time c n q r = refl
 by-solution false sys to_time c n q r = absurd r
 
-pub solves_next : (sys : System) (d : Digital) (p : Place) (to_time : Bool) (o : Result (List ℤ) Cause) → p.stage ≡ stages.InDelta to_time → IsReady (next_of sys (held_of d p)) → l.solution sys (state_of d p) ≡ o → next_of sys (held_of d p) ≡ h.solved_by o sys to_time p.cycles_left p.tries_left (state_of d p)
+pub solves_next : (sys : System) (d : Digital) (p : RunPlace) (to_time : Bool) (o : Result (List ℤ) Cause) → p.stage ≡ stages.InDelta to_time → IsReady (next_of sys (held_of d p)) → l.solution sys (state_of d p) ≡ o → next_of sys (held_of d p) ≡ h.solved_by o sys to_time p.cycles_left p.tries_left (state_of d p)
 solves_next sys d p to_time o e r solves =
     let q = state_of d p in
     let c = p.cycles_left in
@@ -64,7 +64,7 @@ solved_refused (Ok x) old new c e v = cc
 solved_refused (Err a) old new c e v = let same : a ≡ c = cc in (ap (λ (b : Cause). Err b) same, v)
 
 -- what a solution leaves
-abbrev after_solution : System → Digital → Place → Bool → List ℕ → ℕ → List Val → List ℤ → RunState
+abbrev after_solution : System → Digital → RunPlace → Bool → List ℕ → ℕ → List Val → List ℤ → RunState
 after_solution sys d p timed branches h0 frame x =
     record (state_of d p) {
       point = x;
@@ -73,7 +73,7 @@ after_solution sys d p timed branches h0 frame x =
       tip = cond timed (record { t = p.time; x = x; h = h0; fresh = true }) p.tip;
     }
 
-left-is : (sys : System) (d : Digital) (p : Place) (to_time is_chosen timed : Bool) (branches : List ℕ) (h0 : ℕ) (frame : List Val) (x : List ℤ) →
+left-is : (sys : System) (d : Digital) (p : RunPlace) (to_time is_chosen timed : Bool) (branches : List ℕ) (h0 : ℕ) (frame : List Val) (x : List ℤ) →
     p.timed ≡ timed →
     held_of d (cond timed (renewed_at h0 (record (chosen_at is_chosen branches (record p { point = x })) { stage = stages.InCycle to_time })) (record (chosen_at is_chosen branches (record p { point = x })) { stage = stages.InCycle to_time; solved = frame; is_solved = true }))
     ≡ h.at (h.InCycle to_time) p.cycles_left p.tries_left (after_solution sys d p timed (chosen_of is_chosen branches (olds_of p)) h0 frame x)
@@ -82,11 +82,11 @@ left-is sys d p to_time true false branches h0 frame x e = refl
 left-is sys d p to_time false true branches h0 frame x e = refl
 left-is sys d p to_time false false branches h0 frame x e = refl
 
-chosen-timed : (is_chosen : Bool) (branches : List ℕ) (p : Place) → (chosen_at is_chosen branches p).timed ≡ p.timed
+chosen-timed : (is_chosen : Bool) (branches : List ℕ) (p : RunPlace) → (chosen_at is_chosen branches p).timed ≡ p.timed
 chosen-timed true branches p = refl
 chosen-timed false branches p = refl
 
-pub solution_is : (sys : System) (d : Digital) (p : Place) (to_time is_chosen : Bool) (branches : List ℕ) (h0 : ℕ) (frame : List Val) (x : List ℤ) →
+pub solution_is : (sys : System) (d : Digital) (p : RunPlace) (to_time is_chosen : Bool) (branches : List ℕ) (h0 : ℕ) (frame : List Val) (x : List ℤ) →
     h0 ≡ sys.options.h0 → frame ≡ sys.frame d → chosen_of is_chosen branches (olds_of p) ≡ l.solution_branches sys (state_of d p) →
     held_of d (solution_left to_time h0 frame is_chosen branches (record p { point = x })) ≡ h.at (h.InCycle to_time) p.cycles_left p.tries_left (l.solved_at sys (state_of d p) x)
 solution_is sys d p to_time is_chosen branches h0 frame x first is chosen =
@@ -105,7 +105,7 @@ solution-from : (timed : Bool) (sys : System) (q : RunState) → l.solution_by t
 solution-from false sys q = refl
 solution-from true sys q = refl
 
-left-fits : (sys : System) (p : Place) (to_time is_chosen timed : Bool) (branches : List ℕ) (h0 : ℕ) (frame : List Val) (x : List ℤ) → PlaceFits sys p → length x ≡ sys.unknowns → length branches ≡ sys.choices → length frame ≡ sys.frame_len → HasStep sys.options h0 →
+left-fits : (sys : System) (p : RunPlace) (to_time is_chosen timed : Bool) (branches : List ℕ) (h0 : ℕ) (frame : List Val) (x : List ℤ) → PlaceFits sys p → length x ≡ sys.unknowns → length branches ≡ sys.choices → length frame ≡ sys.frame_len → HasStep sys.options h0 →
     PlaceFits sys (cond timed (renewed_at h0 (record (chosen_at is_chosen branches (record p { point = x })) { stage = stages.InCycle to_time })) (record (chosen_at is_chosen branches (record p { point = x })) { stage = stages.InCycle to_time; solved = frame; is_solved = true }))
 left-fits sys p to_time true true branches h0 frame x f px pb pf st =
     record { time_most = f.time_most; point_fits = px; tip_fits = px; tip_most = f.time_most; step = st; at_hi_fits = f.at_hi_fits; solved_fits = f.solved_fits; elements = f.elements; branches_fit = pb }
@@ -116,7 +116,7 @@ left-fits sys p to_time true false branches h0 frame x f px pb pf st =
 left-fits sys p to_time false false branches h0 frame x f px pb pf st =
     record { time_most = f.time_most; point_fits = px; tip_fits = f.tip_fits; tip_most = f.tip_most; step = f.step; at_hi_fits = f.at_hi_fits; solved_fits = pf; elements = f.elements; branches_fit = f.branches_fit }
 
-left-delta : (sys : System) (k : KernelState) (p : Place) (to_time is_chosen timed : Bool) (branches : List ℕ) (h0 : ℕ) (frame old : List Val) (x : List ℤ) (cycles : ℕ) → IsDelta sys k frame p.time p.timed p.tip to_time → cycles + (p.cycles_left + 1) ≤ 200000 →
+left-delta : (sys : System) (k : KernelState) (p : RunPlace) (to_time is_chosen timed : Bool) (branches : List ℕ) (h0 : ℕ) (frame old : List Val) (x : List ℤ) (cycles : ℕ) → IsDelta sys k frame p.time p.timed p.tip to_time → cycles + (p.cycles_left + 1) ≤ 200000 →
     StandsBy (stages.InCycle to_time) sys k frame (cond timed (renewed_at h0 (record (chosen_at is_chosen branches (record p { point = x })) { stage = stages.InCycle to_time })) (record (chosen_at is_chosen branches (record p { point = x })) { stage = stages.InCycle to_time; solved = old; is_solved = true }))
     × (cycles + cycles_ahead (cond timed (renewed_at h0 (record (chosen_at is_chosen branches (record p { point = x })) { stage = stages.InCycle to_time })) (record (chosen_at is_chosen branches (record p { point = x })) { stage = stages.InCycle to_time; solved = old; is_solved = true })) ≤ 200000)
 left-delta sys k p to_time true true branches h0 frame old x cycles d few = (record { goes = d.goes; next = d.next; domain = d.domain; tip_before = omega arith }, few)
@@ -124,16 +124,16 @@ left-delta sys k p to_time false true branches h0 frame old x cycles d few = (re
 left-delta sys k p to_time true false branches h0 frame old x cycles d few = (d, few)
 left-delta sys k p to_time false false branches h0 frame old x cycles d few = (d, few)
 
-left-stage : (p : Place) (to_time is_chosen timed : Bool) (branches : List ℕ) (h0 : ℕ) (frame : List Val) (x : List ℤ) →
+left-stage : (p : RunPlace) (to_time is_chosen timed : Bool) (branches : List ℕ) (h0 : ℕ) (frame : List Val) (x : List ℤ) →
     (cond timed (renewed_at h0 (record (chosen_at is_chosen branches (record p { point = x })) { stage = stages.InCycle to_time })) (record (chosen_at is_chosen branches (record p { point = x })) { stage = stages.InCycle to_time; solved = frame; is_solved = true })).stage ≡ stages.InCycle to_time
 left-stage p to_time is_chosen true branches h0 frame x = refl
 left-stage p to_time is_chosen false branches h0 frame x = refl
 
-solution-stands : (sys : System) (k : KernelState) (p : Place) (to_time is_chosen : Bool) (branches : List ℕ) (h0 : ℕ) (frame : List Val) (x : List ℤ) (cycles : ℕ) → IsDelta sys k frame p.time p.timed p.tip to_time → cycles + (p.cycles_left + 1) ≤ 200000 → PlaceFits sys p → length x ≡ sys.unknowns → length branches ≡ sys.choices → length frame ≡ sys.frame_len → HasStep sys.options h0 →
+solution-stands : (sys : System) (k : KernelState) (p : RunPlace) (to_time is_chosen : Bool) (branches : List ℕ) (h0 : ℕ) (frame : List Val) (x : List ℤ) (cycles : ℕ) → IsDelta sys k frame p.time p.timed p.tip to_time → cycles + (p.cycles_left + 1) ≤ 200000 → PlaceFits sys p → length x ≡ sys.unknowns → length branches ≡ sys.choices → length frame ≡ sys.frame_len → HasStep sys.options h0 →
     Stands sys k frame cycles (solution_left to_time h0 frame is_chosen branches (record p { point = x }))
 solution-stands sys k p to_time is_chosen branches h0 frame x cycles delta few f px pb pf st =
     let timed = (chosen_at is_chosen branches (record p { point = x })).timed in
-    let left : Place = solution_left to_time h0 frame is_chosen branches (record p { point = x }) in
+    let left : RunPlace = solution_left to_time h0 frame is_chosen branches (record p { point = x }) in
     let ds = left-delta sys k p to_time is_chosen timed branches h0 frame frame x cycles delta few in
     record {
       fits = left-fits sys p to_time is_chosen timed branches h0 frame x f px pb pf st;
@@ -144,7 +144,7 @@ solution-stands sys k p to_time is_chosen branches h0 frame x cycles delta few f
 pub first_step : (o : Options) → IsAllowed o → HasStep o o.h0
 first_step o a = record { least = a.h0_least; most = a.h0_most }
 
-left-tip : (sys : System) (p : Place) (to_time is_chosen timed : Bool) (branches : List ℕ) (h0 : ℕ) (frame : List Val) (x : List ℤ) →
+left-tip : (sys : System) (p : RunPlace) (to_time is_chosen timed : Bool) (branches : List ℕ) (h0 : ℕ) (frame : List Val) (x : List ℤ) →
     (cond timed (renewed_at h0 (record (chosen_at is_chosen branches (record p { point = x })) { stage = stages.InCycle to_time })) (record (chosen_at is_chosen branches (record p { point = x })) { stage = stages.InCycle to_time; solved = frame; is_solved = true })).tip
     ≡ cond timed (record { t = p.time; x = x; h = h0; fresh = true }) p.tip
 left-tip sys p to_time true true branches h0 frame x = refl
@@ -153,7 +153,7 @@ left-tip sys p to_time true false branches h0 frame x = refl
 left-tip sys p to_time false false branches h0 frame x = refl
 
 -- a solution was made
-pub solve_done : {D S K : Type 0} (sys : System) (part count : S → ℕ) (state : K → KernelState) (m : Machine D S K) (s' : S) (bs : List ℕ) (x : List ℤ) (is_chosen to_time : Bool) (P : Place) (out out' : List Event) (said : Moved)
+pub solve_done : {D S K : Type 0} (sys : System) (part count : S → ℕ) (state : K → KernelState) (m : Machine D S K) (s' : S) (bs : List ℕ) (x : List ℤ) (is_chosen to_time : Bool) (P : RunPlace) (out out' : List Event) (said : Moved)
     → Sound sys part state m → m.awaited ≡ Ready → m.place.stage ≡ stages.InDelta to_time
     → IsReady (next_of sys (held_of (digital_at sys (state m.kernel)) m.place))
     → part s' ≡ 0 → count s' ≡ count m.stepper → length bs ≡ sys.choices → length x ≡ sys.unknowns
@@ -184,7 +184,7 @@ solve_done {D = D} {S = S} {K = K} sys part count state m s' bs x is_chosen to_t
     subst (λ (y : Digital). next_of sys (held_of y p) ≡ h.solved_by (Ok x) sys to_time p.cycles_left p.tries_left q) (sym going)
     (solves_next sys d p to_time (Ok x) e (subst (λ (y : Digital). IsReady (next_of sys (held_of y p))) going r) solution) in
     let held : held_of (digital_at sys k) P ≡ h.at (h.InCycle to_time) p.cycles_left p.tries_left (l.solved_at sys q x) =
-    ap (λ (y : Digital). held_of y P) going ∙ ap (λ (y : Place). held_of d y) left ∙ solution_is sys d p to_time is_chosen bs m.options.h0 m.frame x first is branches in
+    ap (λ (y : Digital). held_of y P) going ∙ ap (λ (y : RunPlace). held_of d y) left ∙ solution_is sys d p to_time is_chosen bs m.options.h0 m.frame x first is branches in
     let m' : Machine D S K = record m { stepper = s'; branches = bs; place = P } in
     work_done sys part count state m m' out out' q kinds.Solve (l.point_events p.time p.delta x (l.solution_branches sys q) q.branches) p.timed (l.standing sys (l.solved_at sys q x)) (h.at (h.InCycle to_time) p.cycles_left p.tries_left (l.solved_at sys q x)) said
     next
@@ -197,7 +197,7 @@ solve_done {D = D} {S = S} {K = K} sys part count state m s' bs x is_chosen to_t
     (still_sound sys part state m m' s part_is refl
     (record { asked = s.room.asked; frame = s.room.frame; made = s.room.made; x = s.room.x; branches = pb; new_frame = s.room.new_frame })
     s.frame_fits
-    (subst (λ (y : Place). Stands sys k m.frame m.cycles y) (sym left)
+    (subst (λ (y : RunPlace). Stands sys k m.frame m.cycles y) (sym left)
     (solution-stands sys k p to_time is_chosen bs m.options.h0 m.frame x m.cycles delta few s.stands.fits px pb s.room.frame
     (subst (λ (y : ℕ). HasStep sys.options y) (sym first) (first_step sys.options s.allowed)))))
     made
@@ -246,7 +246,7 @@ solve_lost sys part count state m m' bs x is_chosen to_time out out' res lost s 
     (subst (λ (y : List ℕ). AddsFront out out' (l.point_events p.time p.delta x y (olds_of p))) branches front)
 
 -- a solution was refused
-pub solve_refused : {D S K : Type 0} (sys : System) (part count : S → ℕ) (state : K → KernelState) (m : Machine D S K) (s' : S) (bs : List ℕ) (x : List ℤ) (cause : Cause) (to_time : Bool) (P : Place) (out : List Event)
+pub solve_refused : {D S K : Type 0} (sys : System) (part count : S → ℕ) (state : K → KernelState) (m : Machine D S K) (s' : S) (bs : List ℕ) (x : List ℤ) (cause : Cause) (to_time : Bool) (P : RunPlace) (out : List Event)
     → Sound sys part state m → m.awaited ≡ Ready → m.place.stage ≡ stages.InDelta to_time
     → IsReady (next_of sys (held_of (digital_at sys (state m.kernel)) m.place))
     → part s' ≡ 0 → count s' ≡ count m.stepper → length bs ≡ sys.choices
@@ -267,16 +267,16 @@ solve_refused {D = D} {S = S} {K = K} sys part count state m s' bs x cause to_ti
     let m' : Machine D S K = record m { stepper = s'; branches = bs; place = P } in
     work_done sys part count state m m' out out q kinds.Solve [] false (l.standing sys q) (h.ended (l.unsolvable q cause) p.cycles_left p.tries_left q) (says.Ask asks.None)
     (solve-next sys part state m to_time (Err cause) s e r bad.0)
-    (ap (λ (y : Place). h.rest_of sys (held_of (digital_at sys k) y)) is)
+    (ap (λ (y : RunPlace). h.rest_of sys (held_of (digital_at sys k) y)) is)
     awaits
-    (ap (λ (y : Place). y.tip) is)
+    (ap (λ (y : RunPlace). y.tip) is)
     delta.goes.frame_is
     refl
     (sym (none-more m.cycles))
     (still_sound sys part state m m' s part_is refl
     (record { asked = s.room.asked; frame = s.room.frame; made = s.room.made; x = s.room.x; branches = pb; new_frame = s.room.new_frame })
     s.frame_fits
-    (subst (λ (y : Place). Stands sys k m.frame m.cycles y) (sym is) (record { fits = s.stands.fits; stands = tt; few = omega arith })))
+    (subst (λ (y : RunPlace). Stands sys k m.frame m.cycles y) (sym is) (record { fits = s.stands.fits; stands = tt; few = omega arith })))
     made
     refl
     (sym (append-nil out))

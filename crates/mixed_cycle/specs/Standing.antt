@@ -12,7 +12,7 @@ use Rattle.step_model.specs.System.{System, Digital}
 use Rattle.lockstep_model.specs.Lockstep as l
 use Rattle.lockstep_model.specs.Lockstep.{until_of}
 use Rattle.above_events.specs.Locating.{Span}
-use Rattle.run_place.specs.declared.place.Place.{Place}
+use Rattle.run_place.specs.declared.place.RunPlace.{RunPlace}
 use Rattle.run_place.specs.declared.place.Stage.{Stage}
 use Rattle.run_place.specs.declared.place.Stage.TheVariants as stages
 use Rattle.run_place.specs.Places.{state_of}
@@ -39,7 +39,7 @@ pub record Fits (sys : System) (time : ℕ) (point : List ℤ) (tip : Tip) (at_h
   pub elements : All (λ e. IsTrue (sys.is_element e)) gathered
   pub branches_fit : length branches ≡ sys.choices
 
-abbrev pub PlaceFits : System → Place → Type 0
+abbrev pub PlaceFits : System → RunPlace → Type 0
 PlaceFits sys p = Fits sys p.time p.point p.tip p.at_hi p.solved p.gathered p.branches
 
 -- the kernel goes on: the frame is its, DOMAIN too, and its last cycle wasn't later
@@ -74,14 +74,14 @@ pub record IsSearch (sys : System) (k : KernelState) (frame : List Val) (time : 
   pub until : s.hi ≤ until_of (sys.next_time k.digital) sys.options.stop
   pub step : IsStep (s.hi - tip.t)
 
-pub record IsFirst (sys : System) (k : KernelState) (frame : List Val) (p : Place) : Type 0 where
+pub record IsFirst (sys : System) (k : KernelState) (frame : List Val) (p : RunPlace) : Type 0 where
   pub stage : k.stage ≡ Unstarted
   pub frame_is : frame ≡ sys.frame sys.unstarted
   pub cycles : p.cycles_left ≡ sys.cycles
   pub tries : p.tries_left ≡ sys.tries
   pub state : state_of sys.unstarted p ≡ l.unstarted_state sys
 
-abbrev pub StandsBy : Stage → System → KernelState → List Val → Place → Type 0
+abbrev pub StandsBy : Stage → System → KernelState → List Val → RunPlace → Type 0
 StandsBy stages.Unstarted sys k frame p = IsFirst sys k frame p
 StandsBy stages.Placed sys k frame p = IsPlaced sys k frame p.time p.timed p.tip
 StandsBy (stages.InDelta to_time) sys k frame p = IsDelta sys k frame p.time p.timed p.tip to_time
@@ -100,11 +100,11 @@ pending stages.InPhase = 0
 pending stages.InSearch = 0
 pending (stages.Finished e) = 0
 
-abbrev pub cycles_ahead : Place → ℕ
+abbrev pub cycles_ahead : RunPlace → ℕ
 cycles_ahead p = p.cycles_left + pending p.stage
 
 -- what is true of a place between two works
-pub record Stands (sys : System) (k : KernelState) (frame : List Val) (cycles : ℕ) (p : Place) : Type 0 where
+pub record Stands (sys : System) (k : KernelState) (frame : List Val) (cycles : ℕ) (p : RunPlace) : Type 0 where
   pub fits : PlaceFits sys p
   pub stands : StandsBy p.stage sys k frame p
   pub few : cycles + cycles_ahead p ≤ 200000

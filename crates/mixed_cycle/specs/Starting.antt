@@ -21,7 +21,7 @@ use Rattle.lockstep_model.specs.declared.moves.Moved.TheVariants as says
 use Rattle.lockstep_model.specs.declared.moves.Ask.TheVariants as asks
 use Rattle.cycle_machine.specs.Held as h
 use Rattle.cycle_machine.specs.Held.{Held, next_of, next_by}
-use Rattle.run_place.specs.declared.place.Place.{Place}
+use Rattle.run_place.specs.declared.place.RunPlace.{RunPlace}
 use Rattle.run_place.specs.declared.place.Stage.{Stage}
 use Rattle.run_place.specs.declared.place.Stage.TheVariants as stages
 use Rattle.run_place.specs.Places.{stage_of, state_of, held_of}
@@ -37,7 +37,7 @@ first-of : {D S K : Type 0} (sys : System) (part : S → ℕ) (state : K → Ker
 first-of sys part state m s e = subst (λ (x : Stage). StandsBy x sys (state m.kernel) m.frame m.place) e s.stands.stands
 
 -- what comes next, by how the start ended
-start-next : (sys : System) (d : Digital) (p : Place) (ran : Ran) → p.stage ≡ stages.Unstarted → (l.first_cycle sys).ran ≡ ran → next_of sys (held_of d p) ≡ h.started_by ran sys
+start-next : (sys : System) (d : Digital) (p : RunPlace) (ran : Ran) → p.stage ≡ stages.Unstarted → (l.first_cycle sys).ran ≡ ran → next_of sys (held_of d p) ≡ h.started_by ran sys
 start-next sys d p ran e is =
     ap (λ (s : Stage). next_by (stage_of s p.search p.at_hi) sys p.cycles_left p.tries_left (state_of d p)) e
     ∙ ap (λ (r : Ran). h.started_by r sys) is
@@ -54,7 +54,7 @@ none-more : (n : ℕ) → 0 + n ≡ n
 none-more n = omega arith
 
 -- the start was made
-pub start_done : {D S K : Type 0} (sys : System) (part count : S → ℕ) (state : K → KernelState) (m : Machine D S K) (kernel : K) (gathered : List Element) (frame : List Val) (broke : Bool) (P : Place) (out out' : List Event)
+pub start_done : {D S K : Type 0} (sys : System) (part count : S → ℕ) (state : K → KernelState) (m : Machine D S K) (kernel : K) (gathered : List Element) (frame : List Val) (broke : Bool) (P : RunPlace) (out out' : List Event)
     → Sound sys part state m → m.awaited ≡ Ready → m.place.stage ≡ stages.Unstarted
     → Started sys (state kernel) m.place.point (rans.Done broke)
     → ((state kernel).stage ≡ Going → gathered ≡ l.gathered_with m.place.gathered (sys.breaks (state kernel).digital))
@@ -84,7 +84,7 @@ start_done {D = D} {S = S} {K = K} sys part count state m kernel gathered frame 
     ∙ ap (λ (xs : List Element). record (l.first_place sys broke) { gathered = xs }) gathered_is in
     let held : held_of (digital_at sys k') P ≡ h.at h.Placed sys.cycles sys.tries (l.first_place sys broke) =
     ap (λ (y : Digital). held_of y P) (digital_going sys k' goes ∙ digital)
-    ∙ ap (λ (y : Place). held_of d' y) left
+    ∙ ap (λ (y : RunPlace). held_of d' y) left
     ∙ ap (λ (q : RunState). h.at h.Placed p.cycles_left p.tries_left q) state_is
     ∙ ap (λ (c : ℕ). h.at h.Placed c p.tries_left (l.first_place sys broke)) first.cycles
     ∙ ap (λ (n : ℕ). h.at h.Placed sys.cycles n (l.first_place sys broke)) first.tries in
@@ -105,7 +105,7 @@ start_done {D = D} {S = S} {K = K} sys part count state m kernel gathered frame 
     (still_sound sys part state m m' s s.part_is refl
     (record { asked = s.room.asked; frame = len; made = s.room.made; x = s.room.x; branches = s.room.branches; new_frame = s.room.new_frame })
     fits
-    (subst (λ (y : Place). Stands sys k' frame m.cycles y) (sym left)
+    (subst (λ (y : RunPlace). Stands sys k' frame m.cycles y) (sym left)
     (record {
       fits = record { time_most = f.time_most; point_fits = f.point_fits; tip_fits = f.tip_fits; tip_most = f.tip_most; step = f.step; at_hi_fits = f.at_hi_fits; solved_fits = f.solved_fits; elements = all; branches_fit = f.branches_fit };
       stands = record { goes = record { stage = goes; frame_is = frames goes; domain_is = call.domain_is goes ∙ sym timed; began = omega arith }; now = now; tip_before = omega arith };
@@ -116,7 +116,7 @@ start_done {D = D} {S = S} {K = K} sys part count state m kernel gathered frame 
     (gave ∙ ap (λ (c : CycleOutcome). out ++ c.events) from)
 
 -- the start was refused
-pub start_refused : {D S K : Type 0} (sys : System) (part count : S → ℕ) (state : K → KernelState) (m : Machine D S K) (kernel : K) (refusal : Refusal) (P : Place) (out out' : List Event)
+pub start_refused : {D S K : Type 0} (sys : System) (part count : S → ℕ) (state : K → KernelState) (m : Machine D S K) (kernel : K) (refusal : Refusal) (P : RunPlace) (out out' : List Event)
     → Sound sys part state m → m.awaited ≡ Ready → m.place.stage ≡ stages.Unstarted
     → Started sys (state kernel) m.place.point (rans.Refused refusal)
     → P ≡ refused_left refusal m.place
@@ -135,16 +135,16 @@ start_refused {D = D} {S = S} {K = K} sys part count state m kernel refusal P ou
     let m' : Machine D S K = record m { kernel = kernel; place = P } in
     work_done sys part count state m m' out out' (l.unstarted_state sys) kinds.Start (l.first_cycle sys).events false (l.first_standing sys) (h.at (h.Finished (ends.Refused 0 refusal)) sys.cycles sys.tries (l.unstarted_state sys)) (says.Ask asks.None)
     (start-next sys (digital_at sys k) p (rans.Refused refusal) e ran)
-    (ap (λ (y : Place). h.rest_of sys (held_of (digital_at sys k') y)) left ∙ ap (λ (t : ℕ). over (ends.Refused t refusal)) time)
+    (ap (λ (y : RunPlace). h.rest_of sys (held_of (digital_at sys k') y)) left ∙ ap (λ (t : ℕ). over (ends.Refused t refusal)) time)
     awaits
-    (ap (λ (y : Place). y.tip) left ∙ ap (λ (q : RunState). q.tip) first.state)
+    (ap (λ (y : RunPlace). y.tip) left ∙ ap (λ (q : RunState). q.tip) first.state)
     first.frame_is
     refl
     (sym (none-more m.cycles))
     (still_sound sys part state m m' s s.part_is refl
     (record { asked = s.room.asked; frame = s.room.frame; made = s.room.made; x = s.room.x; branches = s.room.branches; new_frame = s.room.new_frame })
     s.frame_fits
-    (subst (λ (y : Place). Stands sys k' m.frame m.cycles y) (sym left) (record { fits = s.stands.fits; stands = tt; few = few })))
+    (subst (λ (y : RunPlace). Stands sys k' m.frame m.cycles y) (sym left) (record { fits = s.stands.fits; stands = tt; few = few })))
     refl
     refl
     (gave ∙ ap (λ (c : CycleOutcome). out ++ c.events) from)

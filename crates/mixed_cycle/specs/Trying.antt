@@ -13,13 +13,13 @@ use Rattle.cycle_machine.specs.Held as h
 use Rattle.cycle_machine.specs.Held.{Held, Step, next_of, next_by}
 use Rattle.cycle_machine.specs.Moves.{IsTried}
 use Rattle.cycle_machine.specs.Ready.{IsReady}
-use Rattle.run_place.specs.declared.place.Place.{Place}
+use Rattle.run_place.specs.declared.place.RunPlace.{RunPlace}
 use Rattle.run_place.specs.declared.place.Stage.{Stage}
 use Rattle.run_place.specs.declared.place.Stage.TheVariants as stages
 use Rattle.run_place.specs.Places.{stage_of, state_of, held_of}
 
 -- an attempt is the next thing, with a try that is left
-pub record TriedNext (sys : System) (d : Digital) (p : Place) : Type 0 where
+pub record TriedNext (sys : System) (d : Digital) (p : RunPlace) : Type 0 where
   pub stage : p.stage ≡ stages.InPhase
   pub apart : l.is_there sys (state_of d p) ≡ false
   pub fits : l.ends_in_time sys (state_of d p) ≡ true
@@ -64,13 +64,13 @@ ahead-tries false false (suc n) sys c q r = absurd (side-tries-none (l.side_at s
 ahead-tries false true zero sys c q r = absurd r
 ahead-tries false true (suc n) sys c q r = tries n sys c q
 
-at-phase : (sys : System) (d : Digital) (p : Place) → p.stage ≡ stages.InPhase → next_of sys (held_of d p) ≡ h.phase_next sys p.cycles_left p.tries_left (state_of d p)
+at-phase : (sys : System) (d : Digital) (p : RunPlace) → p.stage ≡ stages.InPhase → next_of sys (held_of d p) ≡ h.phase_next sys p.cycles_left p.tries_left (state_of d p)
 at-phase sys d p e = ap (λ (s : Stage). next_by (stage_of s p.search p.at_hi) sys p.cycles_left p.tries_left (state_of d p)) e
 
-next-from : (sys : System) (d : Digital) (p : Place) → p.stage ≡ stages.InPhase → PhaseTries (l.is_there sys (state_of d p)) (l.ends_in_time sys (state_of d p)) p.tries_left sys p.cycles_left (state_of d p) → TriedNext sys d p
+next-from : (sys : System) (d : Digital) (p : RunPlace) → p.stage ≡ stages.InPhase → PhaseTries (l.is_there sys (state_of d p)) (l.ends_in_time sys (state_of d p)) p.tries_left sys p.cycles_left (state_of d p) → TriedNext sys d p
 next-from sys d p e t = record { stage = e; apart = t.apart; fits = t.fits-in; some = t.some; comes = at-phase sys d p e ∙ t.comes }
 
-pub tried_ready : (sys : System) (d : Digital) (p : Place) → p.stage ≡ stages.InPhase → l.ends_in_time sys (state_of d p) ≡ true → IsReady (next_of sys (held_of d p)) → TriedNext sys d p
+pub tried_ready : (sys : System) (d : Digital) (p : RunPlace) → p.stage ≡ stages.InPhase → l.ends_in_time sys (state_of d p) ≡ true → IsReady (next_of sys (held_of d p)) → TriedNext sys d p
 tried_ready sys d p e fits r =
     let q = state_of d p in
     next-from sys d p e (ready-tries (l.is_there sys q) (l.ends_in_time sys q) p.tries_left sys p.cycles_left q fits (subst IsReady (at-phase sys d p e) r))
@@ -94,7 +94,7 @@ search-tries-none true n sys c q b r = r
 search-tries-none false zero sys c q b r = r
 search-tries-none false (suc n) sys c q b r = r
 
-phase-only : (s : Stage) (sys : System) (d : Digital) (p : Place) → IsTried (next_by (stage_of s p.search p.at_hi) sys p.cycles_left p.tries_left (state_of d p)) → s ≡ stages.InPhase
+phase-only : (s : Stage) (sys : System) (d : Digital) (p : RunPlace) → IsTried (next_by (stage_of s p.search p.at_hi) sys p.cycles_left p.tries_left (state_of d p)) → s ≡ stages.InPhase
 phase-only stages.Unstarted sys d p r = absurd (start-tries-none (l.first_cycle sys).ran sys r)
 phase-only stages.Placed sys d p r = absurd r
 phase-only (stages.InDelta to_time) sys d p r = absurd (solve-tries-none (l.needs_solution sys (state_of d p)) (l.solution sys (state_of d p)) sys to_time p.cycles_left p.tries_left (state_of d p) refl r)
@@ -103,7 +103,7 @@ phase-only stages.InPhase sys d p r = refl
 phase-only stages.InSearch sys d p r = absurd (search-tries-none (is_near sys.options.xres (with_point p.search p.at_hi)) p.tries_left sys p.cycles_left (state_of d p) (with_point p.search p.at_hi) r)
 phase-only (stages.Finished e) sys d p r = absurd r
 
-pub tried_ahead : (sys : System) (d : Digital) (p : Place) → IsTried (next_of sys (held_of d p)) → TriedNext sys d p
+pub tried_ahead : (sys : System) (d : Digital) (p : RunPlace) → IsTried (next_of sys (held_of d p)) → TriedNext sys d p
 tried_ahead sys d p r =
     let q = state_of d p in
     let e : p.stage ≡ stages.InPhase = phase-only p.stage sys d p r in

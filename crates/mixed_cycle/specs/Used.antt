@@ -28,7 +28,7 @@ use Rattle.cycle_machine.specs.Held as h
 use Rattle.cycle_machine.specs.Held.{Held, Decides, Makes, Stops, Step, next_of, rest_of}
 use Rattle.cycle_machine.specs.Ready.{IsReady, ready, ready_ready}
 use Rattle.cycle_machine.specs.Moves.{Moment, Moving, AheadOf, walk_of, own_by, found_by, led, proceed, proceed_by, made_ready}
-use Rattle.run_place.specs.declared.place.Place.{Place}
+use Rattle.run_place.specs.declared.place.RunPlace.{RunPlace}
 use Rattle.run_place.specs.Places.{state_of, held_of}
 use Rattle.run_place.specs.Giving.{chosen_of, olds_of}
 use Rattle.mixed_cycle.specs.declared.machine.Awaited.{Awaited}
@@ -77,7 +77,7 @@ tried-next sys part state m a bs is_chosen gives crosses u =
     ∙ ap (λ (g : Bool). tried-by sys q a p.cycles_left n crosses (cond crosses (l.bound_events sys q (l.attempt_bounds q a)) (cond g (l.point_events a.end 0 a.x (l.step_branches sys q) (olds_of p)) []))) (sym u.gives_is)
     ∙ ap (λ (es : List Event). tried-by sys q a p.cycles_left n crosses es) (sym (used_gives crosses sys d gives is_chosen bs m.options.xres p a (ap (λ (o : Options). o.xres) u.sound.options_are) branches))
 
-held-is : {D S K : Type 0} (sys : System) (part : S → ℕ) (state : K → KernelState) (m : Machine D S K) (a : Attempt) (bs : List ℕ) (is_chosen gives crosses : Bool) (P : Place) → Uses sys part state m a bs is_chosen gives crosses → P ≡ used_left crosses gives a m.options.xres is_chosen bs (counted m.place) →
+held-is : {D S K : Type 0} (sys : System) (part : S → ℕ) (state : K → KernelState) (m : Machine D S K) (a : Attempt) (bs : List ℕ) (is_chosen gives crosses : Bool) (P : RunPlace) → Uses sys part state m a bs is_chosen gives crosses → P ≡ used_left crosses gives a m.options.xres is_chosen bs (counted m.place) →
     held_of (digital_at sys (state m.kernel)) P ≡ held-behind sys (state_of (state m.kernel).digital m.place) a m.place.cycles_left (m.place.tries_left - 1) crosses
 held-is sys part state m a bs is_chosen gives crosses P u left =
     let k = state m.kernel in
@@ -85,12 +85,12 @@ held-is sys part state m a bs is_chosen gives crosses P u left =
     let d = k.digital in
     let t : Attempts sys k m.frame m.cycles p a = attempts sys part state m a u.sound u.ahead u.made in
     ap (λ (y : Digital). held_of y P) t.digital
-    ∙ ap (λ (y : Place). held_of d y) left
+    ∙ ap (λ (y : RunPlace). held_of d y) left
     ∙ used_held crosses sys d gives is_chosen bs m.options.xres p a t.tried.stage u.gives_is
     (u.chosen ∙ ap (λ (f : List Val). l.branches_or (olds_of p) (sys.choose f p.tip.t Timed p.tip.x)) t.phase.goes.frame_is)
 
 -- the tip behind it
-passed-tip : (failed gives is_chosen : Bool) (a : Attempt) (bs : List ℕ) (p : Place) (t : Tip) → (ended_by failed a (record (given_at gives is_chosen bs (counted p)) { tip = t })).tip ≡ t
+passed-tip : (failed gives is_chosen : Bool) (a : Attempt) (bs : List ℕ) (p : RunPlace) (t : Tip) → (ended_by failed a (record (given_at gives is_chosen bs (counted p)) { tip = t })).tip ≡ t
 passed-tip true true true a bs p t = refl
 passed-tip true true false a bs p t = refl
 passed-tip true false is_chosen a bs p t = refl
@@ -124,7 +124,7 @@ asked-fits : (crosses : Bool) (n : ℕ) (A old tip : Tip) → length old.x ≡ n
 asked-fits true n A old tip a b stays goes = ap (λ (y : Tip). length y.x) (stays refl) ∙ a
 asked-fits false n A old tip a b stays goes = ap (λ (y : Tip). length y.x) (goes refl) ∙ b
 
-used-sound : {D S K : Type 0} (sys : System) (part : S → ℕ) (state : K → KernelState) (m : Machine D S K) (a made : Attempt) (bs : List ℕ) (is_chosen gives crosses : Bool) (s' : S) (P : Place) (A : Tip) (aw : Awaited) (n : ℕ) → Uses sys part state m a bs is_chosen gives crosses → part s' ≡ 0 → length made.x ≡ sys.unknowns → P ≡ used_left crosses gives a m.options.xres is_chosen bs (counted m.place) →
+used-sound : {D S K : Type 0} (sys : System) (part : S → ℕ) (state : K → KernelState) (m : Machine D S K) (a made : Attempt) (bs : List ℕ) (is_chosen gives crosses : Bool) (s' : S) (P : RunPlace) (A : Tip) (aw : Awaited) (n : ℕ) → Uses sys part state m a bs is_chosen gives crosses → part s' ≡ 0 → length made.x ≡ sys.unknowns → P ≡ used_left crosses gives a m.options.xres is_chosen bs (counted m.place) →
     (crosses ≡ true → A ≡ m.asked) → (crosses ≡ false → A ≡ m.place.tip) → Sound sys part state (record m { stepper = s'; made = made; branches = bs; place = P; asked = A; awaited = aw; own = n })
 used-sound {D = D} {S = S} {K = K} sys part state m a made bs is_chosen gives crosses s' P A aw n u part_is room left stays goes =
     let k = state m.kernel in
@@ -134,11 +134,11 @@ used-sound {D = D} {S = S} {K = K} sys part state m a made bs is_chosen gives cr
     still_sound sys part state m m' s part_is refl
     (record { asked = asked-fits crosses sys.unknowns A m.asked m.place.tip s.room.asked s.stands.fits.tip_fits stays goes; frame = s.room.frame; made = room; x = s.room.x; branches = u.branches_fit; new_frame = s.room.new_frame })
     s.frame_fits
-    (subst (λ (y : Place). Stands sys k m.frame m.cycles y) (sym left)
+    (subst (λ (y : RunPlace). Stands sys k m.frame m.cycles y) (sym left)
     (used_stands crosses sys k m.frame m.cycles gives is_chosen bs m.options.xres m.place a s.stands.fits t (ap (λ (o : Options). o.xres) s.options_are) u.branches_fit u.room (crossing_order sys part state m a bs is_chosen gives crosses u)))
 
 -- an own attempt was used
-pub own_used : {D S K : Type 0} (sys : System) (part count : S → ℕ) (state : K → KernelState) (m : Machine D S K) (a : Attempt) (bs : List ℕ) (is_chosen gives crosses : Bool) (s' : S) (P : Place) (A : Tip) (aw : Awaited) (n : ℕ) (said : Moved) (out out' : List Event)
+pub own_used : {D S K : Type 0} (sys : System) (part count : S → ℕ) (state : K → KernelState) (m : Machine D S K) (a : Attempt) (bs : List ℕ) (is_chosen gives crosses : Bool) (s' : S) (P : RunPlace) (A : Tip) (aw : Awaited) (n : ℕ) (said : Moved) (out out' : List Event)
     → Uses sys part state m a bs is_chosen gives crosses → part s' ≡ 0 → count s' ≡ more (count m.stepper) → n ≡ more m.own
     → P ≡ used_left crosses gives a m.options.xres is_chosen bs (counted m.place)
     → (crosses ≡ true → A ≡ m.asked) → (crosses ≡ false → A ≡ m.place.tip)
@@ -167,7 +167,7 @@ own_used {D = D} {S = S} {K = K} sys part count state m a bs is_chosen gives cro
     used-ahead own true aw t s e = subst (λ (x : Awaited). AheadOf (awaited_of x t) s) (sym e) tt
     used-ahead own false aw t s e = subst (λ (x : Awaited). AheadOf (awaited_of x t) s) (sym e) tt
 
-    own-walk : {D S K : Type 0} (sys : System) (part : S → ℕ) (state : K → KernelState) (m : Machine D S K) (a : Attempt) (bs : List ℕ) (is_chosen gives crosses : Bool) (s' : S) (P : Place) (A : Tip) (aw : Awaited) (n : ℕ)
+    own-walk : {D S K : Type 0} (sys : System) (part : S → ℕ) (state : K → KernelState) (m : Machine D S K) (a : Attempt) (bs : List ℕ) (is_chosen gives crosses : Bool) (s' : S) (P : RunPlace) (A : Tip) (aw : Awaited) (n : ℕ)
         → Uses sys part state m a bs is_chosen gives crosses → n ≡ more m.own → P ≡ used_left crosses gives a m.options.xres is_chosen bs (counted m.place) → (crosses ≡ false → A ≡ m.place.tip) → aw ≡ awaited_after true crosses
         → walk_of sys (moment_of sys state (record m { stepper = s'; made = a; branches = bs; place = P; asked = A; awaited = aw; own = n })) ≡
         walk_of sys (record (moment_of sys state m) { held = held-behind sys (state_of (state m.kernel).digital m.place) a m.place.cycles_left (m.place.tries_left - 1) crosses; awaited = cond crosses w.Ready (w.Settling true (next (moment_of sys state m).tip a)); own = more m.own })
@@ -176,12 +176,12 @@ own_used {D = D} {S = S} {K = K} sys part count state m a bs is_chosen gives cro
         walk-is sys state m' (held-behind sys (state_of (state m.kernel).digital m.place) a m.place.cycles_left (m.place.tries_left - 1) true) w.Ready (moment_of sys state m).tip m.frame (more m.own) m.cycles
         (held-is sys part state m a bs is_chosen gives true P u left)
         (ap (λ (x : Awaited). awaited_of x P.tip) awaits)
-        (ap (λ (x : Awaited). asked_of x A P.tip) awaits ∙ ap (λ (y : Place). y.tip) left ∙ sym (asked-tip sys part state m u.awaits))
+        (ap (λ (x : Awaited). asked_of x A P.tip) awaits ∙ ap (λ (y : RunPlace). y.tip) left ∙ sym (asked-tip sys part state m u.awaits))
         refl one refl
     own-walk {D = D} {S = S} {K = K} sys part state m a bs is_chosen gives false s' P A aw n u one left goes awaits =
         let m' : Machine D S K = record m { stepper = s'; made = a; branches = bs; place = P; asked = A; awaited = aw; own = n } in
         let tip : P.tip ≡ next m.place.tip a =
-        ap (λ (y : Place). y.tip) left ∙ passed-tip (is_failed a.kind) gives is_chosen a bs m.place (next m.place.tip a) in
+        ap (λ (y : RunPlace). y.tip) left ∙ passed-tip (is_failed a.kind) gives is_chosen a bs m.place (next m.place.tip a) in
         walk-is sys state m' (held-behind sys (state_of (state m.kernel).digital m.place) a m.place.cycles_left (m.place.tries_left - 1) false) (w.Settling true (next (moment_of sys state m).tip a)) (moment_of sys state m).tip m.frame (more m.own) m.cycles
         (held-is sys part state m a bs is_chosen gives false P u left)
         (ap (λ (x : Awaited). awaited_of x P.tip) awaits ∙ ap (λ (t : Tip). w.Settling true t) (tip ∙ ap (λ (t : Tip). next t a) (sym (asked-tip sys part state m u.awaits))))
@@ -249,7 +249,7 @@ front_led out out' events later f =
     }
 
 -- one that was found goes on
-pub found_used : {D S K : Type 0} (sys : System) (part count : S → ℕ) (state : K → KernelState) (m : Machine D S K) (a : Attempt) (bs : List ℕ) (is_chosen gives crosses : Bool) (s' : S) (P : Place) (A : Tip) (out out' : List Event)
+pub found_used : {D S K : Type 0} (sys : System) (part count : S → ℕ) (state : K → KernelState) (m : Machine D S K) (a : Attempt) (bs : List ℕ) (is_chosen gives crosses : Bool) (s' : S) (P : RunPlace) (A : Tip) (out out' : List Event)
     → Uses sys part state m a bs is_chosen gives crosses → part s' ≡ 0 → count s' ≡ count m.stepper
     → (crosses || is_failed a.kind) ≡ false
     → P ≡ used_left crosses gives a m.options.xres is_chosen bs (counted m.place)
@@ -264,7 +264,7 @@ found_used {D = D} {S = S} {K = K} sys part count state m a bs is_chosen gives f
     let events = used_events false gives a m.options.xres is_chosen bs (counted m.place) in
     let m' : Machine D S K = record m { stepper = s'; branches = bs; place = P; asked = A; awaited = Settling false } in
     let tip : P.tip ≡ next m.place.tip a =
-    ap (λ (y : Place). y.tip) left ∙ passed-tip (is_failed a.kind) gives is_chosen a bs m.place (next m.place.tip a) in
+    ap (λ (y : RunPlace). y.tip) left ∙ passed-tip (is_failed a.kind) gives is_chosen a bs m.place (next m.place.tip a) in
     let at : M.tip ≡ m.place.tip = asked-tip sys part state m u.awaits in
     subst (λ (x : Step). Performs sys part count state (count m.stepper) m' out out' (Ok (says.Ask asks.Consume)) (found_by x sys M)) (sym (tried-next sys part state m a bs is_chosen gives false u))
     (subst (λ (b : Bool). Performs sys part count state (count m.stepper) m' out out' (Ok (says.Ask asks.Consume)) (cond b (led events (proceed sys (record M { held = H }))) (record { moment = record M { held = H; awaited = w.Settling false (next M.tip a) }; says = says.Ask asks.Consume; events = events; computed = 0 }))) (sym stays)
@@ -284,7 +284,7 @@ found_used {D = D} {S = S} {K = K} sys part count state m a bs is_chosen gives f
     }))
 
 -- one that was a crossing or failed isn't consumed, and what follows comes at once
-pub found_led : {D S K : Type 0} (sys : System) (part count : S → ℕ) (state : K → KernelState) (m m'' : Machine D S K) (a : Attempt) (bs : List ℕ) (is_chosen gives crosses : Bool) (s' : S) (P : Place) (A : Tip) (out out' out'' : List Event) (res : Result Moved AllocError)
+pub found_led : {D S K : Type 0} (sys : System) (part count : S → ℕ) (state : K → KernelState) (m m'' : Machine D S K) (a : Attempt) (bs : List ℕ) (is_chosen gives crosses : Bool) (s' : S) (P : RunPlace) (A : Tip) (out out' out'' : List Event) (res : Result Moved AllocError)
     → Uses sys part state m a bs is_chosen gives crosses → count s' ≡ count m.stepper
     → (crosses || is_failed a.kind) ≡ true
     → P ≡ used_left crosses gives a m.options.xres is_chosen bs (counted m.place)
@@ -296,7 +296,7 @@ found_led {D = D} {S = S} {K = K} sys part count state m m'' a bs is_chosen give
     let H = held-behind sys (state_of (state m.kernel).digital m.place) a m.place.cycles_left (m.place.tries_left - 1) crosses in
     let events = used_events crosses gives a m.options.xres is_chosen bs (counted m.place) in
     let m' : Machine D S K = record m { stepper = s'; branches = bs; place = P; asked = A; awaited = Ready } in
-    let tip : P.tip ≡ M.tip = ap (λ (y : Place). y.tip) left ∙ stays-tip crosses gives is_chosen a bs m.options.xres m.place stays ∙ sym (asked-tip sys part state m u.awaits) in
+    let tip : P.tip ≡ M.tip = ap (λ (y : RunPlace). y.tip) left ∙ stays-tip crosses gives is_chosen a bs m.options.xres m.place stays ∙ sym (asked-tip sys part state m u.awaits) in
     let same : proceed sys (moment_of sys state m') ≡ proceed sys (record M { held = H }) =
     ap (λ (x : Held). proceed sys (record M { held = x; awaited = w.Ready; tip = P.tip })) (held-is sys part state m a bs is_chosen gives crosses P u left)
     ∙ ap (λ (t : Tip). proceed sys (record M { held = H; awaited = w.Ready; tip = t })) tip
@@ -307,12 +307,12 @@ found_led {D = D} {S = S} {K = K} sys part count state m m'' a bs is_chosen give
     (subst (λ (v : Moving). Performs sys part count state (count m.stepper) m'' out' out'' res v) same
     (subst (λ (n : ℕ). Performs sys part count state n m'' out' out'' res (proceed sys (moment_of sys state m'))) made done))))
   where
-    stays-tip : (crosses gives is_chosen : Bool) (a : Attempt) (bs : List ℕ) (xres : ℕ) (p : Place) → (crosses || is_failed a.kind) ≡ true → (used_left crosses gives a xres is_chosen bs (counted p)).tip ≡ p.tip
+    stays-tip : (crosses gives is_chosen : Bool) (a : Attempt) (bs : List ℕ) (xres : ℕ) (p : RunPlace) → (crosses || is_failed a.kind) ≡ true → (used_left crosses gives a xres is_chosen bs (counted p)).tip ≡ p.tip
     stays-tip true gives is_chosen a bs xres p e = refl
     stays-tip false gives is_chosen a bs xres p e = passed-tip (is_failed a.kind) gives is_chosen a bs p (next p.tip a) ∙ failed-tip a.kind p.tip a e
 
 -- nothing is awaited any more behind one that isn't consumed
-pub found_sound : {D S K : Type 0} (sys : System) (part : S → ℕ) (state : K → KernelState) (m : Machine D S K) (a : Attempt) (bs : List ℕ) (is_chosen gives crosses : Bool) (s' : S) (P : Place) (A : Tip) → Uses sys part state m a bs is_chosen gives crosses → part s' ≡ 0
+pub found_sound : {D S K : Type 0} (sys : System) (part : S → ℕ) (state : K → KernelState) (m : Machine D S K) (a : Attempt) (bs : List ℕ) (is_chosen gives crosses : Bool) (s' : S) (P : RunPlace) (A : Tip) → Uses sys part state m a bs is_chosen gives crosses → part s' ≡ 0
     → P ≡ used_left crosses gives a m.options.xres is_chosen bs (counted m.place) → (crosses ≡ true → A ≡ m.asked) → (crosses ≡ false → A ≡ m.place.tip)
     → Sound sys part state (record m { stepper = s'; branches = bs; place = P; asked = A; awaited = Ready })
 found_sound sys part state m a bs is_chosen gives crosses s' P A u part_is left keeps goes =

@@ -7,7 +7,7 @@ ghost use Rattle.mixed_cycle.specs.Using.{gives_at, crosses_at, crossing_left, p
 
 use above_events::differs;
 use fix_core::Tick;
-use run_place::{Place, Reached, go_on};
+use run_place::{Reached, RunPlace, go_on};
 use std::alloc::{AllocError, Global};
 use step_data::{Attempt, Choices, EventList, Kind, ThresholdList, Tip};
 
@@ -27,7 +27,7 @@ pub(crate) fn crosses(gives: bool, made: &Attempt, thresholds: &ThresholdList) -
 
 /// A crossing is searched up to its end.
 fn cross(
-    place: &mut Place,
+    place: &mut RunPlace,
     made: &Attempt,
     xres: u64,
     alloc: Global,
@@ -51,7 +51,7 @@ fn cross(
 
 /// The tip goes on behind one that is no crossing, or the run ends; the tip before is kept.
 fn pass(
-    place: &mut Place,
+    place: &mut RunPlace,
     before: &mut Tip,
     made: &Attempt,
     gives: bool,
@@ -83,7 +83,7 @@ fn pass(
 
 /// An attempt is used: a crossing, or one behind which the tip goes on.
 pub(crate) fn take(
-    place: &mut Place,
+    place: &mut RunPlace,
     before: &mut Tip,
     made: &Attempt,
     is_crossing: bool,

@@ -1,5 +1,5 @@
 use fix_core::Tick;
-use run_place::Place;
+use run_place::RunPlace;
 use std::alloc::Global;
 use std::marker::PhantomData;
 use step_data::{Attempt, Choices, Frame, Options, Point, Tip};
@@ -25,7 +25,7 @@ pub struct Machine<D: Design, S: Stepper<D>, K: Kernel<D>> {
     pub kernel: K,
     pub options: Options,
     pub alloc: Global,
-    pub place: Place,
+    pub place: RunPlace,
     pub awaited: Awaited,
     /// The tip that the ask of a consume names.
     pub asked: Tip,

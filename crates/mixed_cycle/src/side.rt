@@ -21,7 +21,7 @@ use crate::trial::trial;
 use above_events::differs;
 use fix_core::Tick;
 use lockstep_model::{Ask, Moved};
-use run_place::{Place, until};
+use run_place::{RunPlace, until};
 use std::alloc::{AllocError, Global};
 use std::mem::swap;
 use step_data::{Cause, Choices, ChooseKind, EventList, Trial};
@@ -36,7 +36,7 @@ fn ticks_between(from: Tick, to: Tick) -> u64
 }
 
 /// What a side step of so many ticks leaves where it was refused: its half is tried, unless it is below the least step.
-fn refuse(place: &mut Place, t: Tick, step: u64, hmin: u64, cause: Cause) -> Moved
+fn refuse(place: &mut RunPlace, t: Tick, step: u64, hmin: u64, cause: Cause) -> Moved
     ensures place { place.new ≡ side_left (nat_lt (step / 2) hmin) t step cause.code place.old }
     ensures said { result ≡ says.Ask (ask_of (not (nat_lt (step / 2) hmin))) }
 {
@@ -52,7 +52,7 @@ fn refuse(place: &mut Place, t: Tick, step: u64, hmin: u64, cause: Cause) -> Mov
 /// What a step to this time leaves that led to the values at the later bound: a search where a threshold is crossed there,
 /// else the arrival.
 fn land(
-    place: &mut Place,
+    place: &mut RunPlace,
     is_crossing: bool,
     t: Tick,
     xres: u64,

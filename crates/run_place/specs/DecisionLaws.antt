@@ -14,7 +14,7 @@ use Rattle.above_events.specs.Locating.{with_point}
 use Rattle.cycle_machine.specs.Held as h
 use Rattle.cycle_machine.specs.Held.{Held, Step, next_by}
 use Rattle.cycle_machine.specs.Ready.{after, decided}
-use Rattle.run_place.specs.declared.place.Place.{Place}
+use Rattle.run_place.specs.declared.place.RunPlace.{RunPlace}
 use Rattle.run_place.specs.declared.place.Stage.{Stage}
 use Rattle.run_place.specs.declared.place.Stage.TheVariants as stages
 use Rattle.run_place.specs.Places.{stage_of, state_of, held_of}
@@ -27,16 +27,16 @@ less_one n = omega arith
 some-left : (n : ℕ) → (suc n == 0) ≡ false
 some-left n = grind (arith, nat_tests)
 
-began-c : (n : ℕ) (to_time : Bool) (d : Digital) (p : Place) → held_of d (c.began to_time (record p { cycles_left = n })) ≡ h.begin n p.tries_left to_time (state_of d p)
+began-c : (n : ℕ) (to_time : Bool) (d : Digital) (p : RunPlace) → held_of d (c.began to_time (record p { cycles_left = n })) ≡ h.begin n p.tries_left to_time (state_of d p)
 began-c zero to_time d p = refl
 began-c (suc n) to_time d p =
     ap (λ b. held_of d (cond b (c.end_with 75 (record p { cycles_left = suc n })) (record p { stage = stages.InDelta to_time; cycles_left = suc n - 1 }))) (some-left n)
     ∙ ap (λ k. h.at (h.InDelta to_time) k p.tries_left (state_of d p)) (less_one n)
 
-pub began_is : (to_time : Bool) (d : Digital) (p : Place) → held_of d (c.began to_time p) ≡ h.begin p.cycles_left p.tries_left to_time (state_of d p)
+pub began_is : (to_time : Bool) (d : Digital) (p : RunPlace) → held_of d (c.began to_time p) ≡ h.begin p.cycles_left p.tries_left to_time (state_of d p)
 began_is to_time d p = began-c p.cycles_left to_time d p
 
-pub arrived_is : (sys : System) (d : Digital) (p : Place) → held_of d (c.arrived_at (sys.next_time d) p) ≡ h.arrived sys p.cycles_left p.tries_left (state_of d p)
+pub arrived_is : (sys : System) (d : Digital) (p : RunPlace) → held_of d (c.arrived_at (sys.next_time d) p) ≡ h.arrived sys p.cycles_left p.tries_left (state_of d p)
 arrived_is sys d p =
     elim (l.stands (sys.next_time d) p.time) as
     (λ b. held_of d (cond b (c.began false p) (c.reached p)) ≡ h.arrived_by b p.cycles_left p.tries_left (state_of d p)) [
@@ -44,7 +44,7 @@ arrived_is sys d p =
       | false ↦ refl
     ]
 
-deeper-is : (sys : System) (to_time : Bool) (d : Digital) (p : Place) → sys.deltas ≡ 1000 → held_of d (c.deeper_at to_time p) ≡ h.deeper_by (nat_le sys.deltas p.delta) p.cycles_left p.tries_left to_time (state_of d p)
+deeper-is : (sys : System) (to_time : Bool) (d : Digital) (p : RunPlace) → sys.deltas ≡ 1000 → held_of d (c.deeper_at to_time p) ≡ h.deeper_by (nat_le sys.deltas p.delta) p.cycles_left p.tries_left to_time (state_of d p)
 deeper-is sys to_time d p budget =
     elim (nat_le 1000 p.delta) as
     (λ b. held_of d (cond b (c.end_with 72 p) (c.began to_time (record p { delta = p.delta + 1 }))) ≡ h.deeper_by b p.cycles_left p.tries_left to_time (state_of d p)) [
@@ -53,7 +53,7 @@ deeper-is sys to_time d p budget =
     ]
     ∙ ap (λ m. h.deeper_by (nat_le m p.delta) p.cycles_left p.tries_left to_time (state_of d p)) (sym budget)
 
-placed-is : (sys : System) (d : Digital) (p : Place) → sys.deltas ≡ 1000 → held_of d (c.placed_at (sys.next_time d) (sys.frame d) sys.options.stop p) ≡ h.placed sys p.cycles_left p.tries_left (state_of d p)
+placed-is : (sys : System) (d : Digital) (p : RunPlace) → sys.deltas ≡ 1000 → held_of d (c.placed_at (sys.next_time d) (sys.frame d) sys.options.stop p) ≡ h.placed sys p.cycles_left p.tries_left (state_of d p)
 placed-is sys d p budget =
     let q = state_of d p in
     elim (l.begins_delta sys q) as
@@ -69,18 +69,18 @@ placed-is sys d p budget =
     ]
 
 -- by the stage of the place
-by-stage : (sys : System) (d : Digital) (p : Place) (s : Stage) → p.stage ≡ s → decided sys (held_of d p) ≡ after (next_by (stage_of s p.search p.at_hi) sys p.cycles_left p.tries_left (state_of d p)) (held_of d p)
+by-stage : (sys : System) (d : Digital) (p : RunPlace) (s : Stage) → p.stage ≡ s → decided sys (held_of d p) ≡ after (next_by (stage_of s p.search p.at_hi) sys p.cycles_left p.tries_left (state_of d p)) (held_of d p)
 by-stage sys d p s e =
     ap (λ (x : Stage). after (next_by (stage_of x p.search p.at_hi) sys p.cycles_left p.tries_left (state_of d p)) (held_of d p)) e
 
-pub placed_decides : (sys : System) (d : Digital) (p : Place) → sys.deltas ≡ 1000 → p.stage ≡ stages.Placed → held_of d (c.placed_at (sys.next_time d) (sys.frame d) sys.options.stop p) ≡ decided sys (held_of d p)
+pub placed_decides : (sys : System) (d : Digital) (p : RunPlace) → sys.deltas ≡ 1000 → p.stage ≡ stages.Placed → held_of d (c.placed_at (sys.next_time d) (sys.frame d) sys.options.stop p) ≡ decided sys (held_of d p)
 placed_decides sys d p budget e = placed-is sys d p budget ∙ sym (by-stage sys d p stages.Placed e)
 
 solved-stays : (o : Result (List ℤ) Cause) (sys : System) (to_time : Bool) (n m : ℕ) (q : RunState) (held : Held) → after (h.solved_by o sys to_time n m q) held ≡ held
 solved-stays (Ok x) sys to_time n m q held = refl
 solved-stays (Err e) sys to_time n m q held = refl
 
-pub delta_decides : (sys : System) (to_time : Bool) (d : Digital) (p : Place) → p.stage ≡ stages.InDelta to_time → held_of d (c.delta_at to_time (sys.frame d) p) ≡ decided sys (held_of d p)
+pub delta_decides : (sys : System) (to_time : Bool) (d : Digital) (p : RunPlace) → p.stage ≡ stages.InDelta to_time → held_of d (c.delta_at to_time (sys.frame d) p) ≡ decided sys (held_of d p)
 delta_decides sys to_time d p e =
     let q = state_of d p in
     elim (l.needs_solution sys q) as
@@ -102,11 +102,11 @@ sided-stays : (o : Result Landing Cause) (sys : System) (n m : ℕ) (q : RunStat
 sided-stays (Err e) sys n m q held = refused-stays (l.is_too_small sys q) sys n m q e held
 sided-stays (Ok s) sys n m q held = accepted-stays (differs s.x (l.thresholds_at sys q)) sys n m q s held
 
-tries-left : (n : ℕ) (d : Digital) (p : Place) → held_of d (c.tried_at (record p { tries_left = suc n })) ≡ held_of d (record p { tries_left = suc n })
+tries-left : (n : ℕ) (d : Digital) (p : RunPlace) → held_of d (c.tried_at (record p { tries_left = suc n })) ≡ held_of d (record p { tries_left = suc n })
 tries-left n d p =
     ap (λ b. held_of d (cond b (c.end_with 76 (record p { tries_left = suc n })) (record p { tries_left = suc n }))) (some-left n)
 
-tried-c : (fits : Bool) (n : ℕ) (sys : System) (d : Digital) (p : Place) →
+tried-c : (fits : Bool) (n : ℕ) (sys : System) (d : Digital) (p : RunPlace) →
     held_of d (c.tried_at (record p { tries_left = n })) ≡ after (h.phase_by (l.phase_step false fits) sys p.cycles_left n (state_of d p)) (held_of d (record p { tries_left = n }))
 tried-c true zero sys d p = refl
 tried-c false zero sys d p = refl
@@ -115,7 +115,7 @@ tried-c false (suc n) sys d p =
     tries-left n d p
     ∙ sym (sided-stays (l.side_at sys (state_of d p)) sys p.cycles_left n (state_of d p) (held_of d (record p { tries_left = suc n })))
 
-pub phase_decides : (sys : System) (d : Digital) (p : Place) → p.stage ≡ stages.InPhase → held_of d (c.phase_at (sys.next_time d) sys.options.stop p) ≡ decided sys (held_of d p)
+pub phase_decides : (sys : System) (d : Digital) (p : RunPlace) → p.stage ≡ stages.InPhase → held_of d (c.phase_at (sys.next_time d) sys.options.stop p) ≡ decided sys (held_of d p)
 phase_decides sys d p e =
     let q = state_of d p in
     let u = l.until sys q in
@@ -127,25 +127,25 @@ phase_decides sys d p e =
     ∙ sym (by-stage sys d p stages.InPhase e)
 
 -- the branches of a step, where they were chosen, and else those before
-chosen-is : (is_chosen : Bool) (branches : List ℕ) (d : Digital) (p : Place) → state_of d (c.chosen_at is_chosen branches p) ≡ record (state_of d p) { branches = chosen_of is_chosen branches (olds_of p) }
+chosen-is : (is_chosen : Bool) (branches : List ℕ) (d : Digital) (p : RunPlace) → state_of d (c.chosen_at is_chosen branches p) ≡ record (state_of d p) { branches = chosen_of is_chosen branches (olds_of p) }
 chosen-is true branches d p = refl
 chosen-is false branches d p = refl
 
-pub stepped_is : (sys : System) (d : Digital) (t : ℕ) (is_chosen : Bool) (branches : List ℕ) (p : Place) → chosen_of is_chosen branches (olds_of p) ≡ l.step_branches sys (state_of d p) → state_of d (c.stepped_at t is_chosen branches p) ≡ l.stepped_to sys (state_of d p) t p.at_hi
+pub stepped_is : (sys : System) (d : Digital) (t : ℕ) (is_chosen : Bool) (branches : List ℕ) (p : RunPlace) → chosen_of is_chosen branches (olds_of p) ≡ l.step_branches sys (state_of d p) → state_of d (c.stepped_at t is_chosen branches p) ≡ l.stepped_to sys (state_of d p) t p.at_hi
 stepped_is sys d t is_chosen branches p e =
     chosen-is is_chosen branches d (record p { time = t; delta = 0; point = p.at_hi; at_hi = p.point })
     ∙ ap (λ bs. record (state_of d (record p { time = t; delta = 0; point = p.at_hi; at_hi = p.point })) { branches = bs }) e
 
-probe-stays : (n : ℕ) (sys : System) (d : Digital) (p : Place) →
+probe-stays : (n : ℕ) (sys : System) (d : Digital) (p : RunPlace) →
     held_of d (c.tried_at (record p { tries_left = n })) ≡ after (h.search_by false sys p.cycles_left n (state_of d p) (with_point p.search p.at_hi)) (held_of d (record p { tries_left = n }))
 probe-stays zero sys d p = refl
 probe-stays (suc n) sys d p = tries-left n d p
 
-chosen-counts : (is_chosen : Bool) (branches : List ℕ) (p : Place) → ((c.chosen_at is_chosen branches p).cycles_left ≡ p.cycles_left) × ((c.chosen_at is_chosen branches p).tries_left ≡ p.tries_left)
+chosen-counts : (is_chosen : Bool) (branches : List ℕ) (p : RunPlace) → ((c.chosen_at is_chosen branches p).cycles_left ≡ p.cycles_left) × ((c.chosen_at is_chosen branches p).tries_left ≡ p.tries_left)
 chosen-counts true branches p = (refl, refl)
 chosen-counts false branches p = (refl, refl)
 
-crossed-is : (sys : System) (d : Digital) (is_chosen : Bool) (branches : List ℕ) (p : Place) → chosen_of is_chosen branches (olds_of p) ≡ l.step_branches sys (state_of d p) →
+crossed-is : (sys : System) (d : Digital) (is_chosen : Bool) (branches : List ℕ) (p : RunPlace) → chosen_of is_chosen branches (olds_of p) ≡ l.step_branches sys (state_of d p) →
     held_of d (c.began false (c.stepped_at p.search.hi is_chosen branches p)) ≡ h.begin p.cycles_left p.tries_left false (l.stepped_to sys (state_of d p) p.search.hi p.at_hi)
 crossed-is sys d is_chosen branches p e =
     let counts = chosen-counts is_chosen branches (record p { time = p.search.hi; delta = 0; point = p.at_hi; at_hi = p.point }) in
@@ -154,7 +154,7 @@ crossed-is sys d is_chosen branches p e =
     ∙ ap (λ n. h.begin p.cycles_left n false (state_of d (c.stepped_at p.search.hi is_chosen branches p))) counts.1
     ∙ ap (λ q. h.begin p.cycles_left p.tries_left false q) (stepped_is sys d p.search.hi is_chosen branches p e)
 
-pub search_decides : (sys : System) (d : Digital) (is_chosen : Bool) (branches : List ℕ) (p : Place) → p.search.xres ≡ sys.options.xres → p.stage ≡ stages.InSearch → chosen_of is_chosen branches (olds_of p) ≡ l.step_branches sys (state_of d p) →
+pub search_decides : (sys : System) (d : Digital) (is_chosen : Bool) (branches : List ℕ) (p : RunPlace) → p.search.xres ≡ sys.options.xres → p.stage ≡ stages.InSearch → chosen_of is_chosen branches (olds_of p) ≡ l.step_branches sys (state_of d p) →
     held_of d (c.search_at is_chosen branches p) ≡ decided sys (held_of d p)
 search_decides sys d is_chosen branches p fine e chosen =
     let b = with_point p.search p.at_hi in
@@ -174,17 +174,17 @@ started-stays sys held = by (l.first_cycle sys).ran
     by (rans.Done broke) = refl
     by (rans.Refused refusal) = refl
 
-pub start_decides : (sys : System) (d : Digital) (p : Place) → p.stage ≡ stages.Unstarted → held_of d p ≡ decided sys (held_of d p)
+pub start_decides : (sys : System) (d : Digital) (p : RunPlace) → p.stage ≡ stages.Unstarted → held_of d p ≡ decided sys (held_of d p)
 start_decides sys d p e = sym (by-stage sys d p stages.Unstarted e ∙ started-stays sys (held_of d p))
 
 cycled-stays : (ran : Ran) (sys : System) (to_time : Bool) (n m : ℕ) (q : RunState) (held : Held) → after (h.cycled_by ran sys to_time n m q) held ≡ held
 cycled-stays (rans.Done broke) sys to_time n m q held = refl
 cycled-stays (rans.Refused refusal) sys to_time n m q held = refl
 
-pub cycle_decides : (sys : System) (to_time : Bool) (d : Digital) (p : Place) → p.stage ≡ stages.InCycle to_time → held_of d p ≡ decided sys (held_of d p)
+pub cycle_decides : (sys : System) (to_time : Bool) (d : Digital) (p : RunPlace) → p.stage ≡ stages.InCycle to_time → held_of d p ≡ decided sys (held_of d p)
 cycle_decides sys to_time d p e =
     sym (by-stage sys d p (stages.InCycle to_time) e
     ∙ cycled-stays (l.cycle_at sys to_time (state_of d p)).ran sys to_time p.cycles_left p.tries_left (state_of d p) (held_of d p))
 
-pub end_decides : (sys : System) (d : Digital) (p : Place) (end : End) → p.stage ≡ stages.Finished end → held_of d p ≡ decided sys (held_of d p)
+pub end_decides : (sys : System) (d : Digital) (p : RunPlace) (end : End) → p.stage ≡ stages.Finished end → held_of d p ≡ decided sys (held_of d p)
 end_decides sys d p end e = sym (by-stage sys d p (stages.Finished end) e)

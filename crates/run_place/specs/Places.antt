@@ -6,7 +6,7 @@ use Rattle.lockstep_model.specs.RunStates.{RunState}
 use Rattle.above_events.specs.Locating.{Span, with_point}
 use Rattle.cycle_machine.specs.Held as h
 use Rattle.cycle_machine.specs.Held.{Held}
-use Rattle.run_place.specs.declared.place.Place.{Place}
+use Rattle.run_place.specs.declared.place.RunPlace.{RunPlace}
 use Rattle.run_place.specs.declared.place.Stage.{Stage}
 use Rattle.run_place.specs.declared.place.Stage.TheVariants as stages
 
@@ -28,7 +28,7 @@ abbrev pub branches_of : Bool → List ℕ → List ℕ
 branches_of false branches = []
 branches_of true branches = branches
 
-abbrev pub state_of : Digital → Place → RunState
+abbrev pub state_of : Digital → RunPlace → RunState
 state_of d p =
     record {
       digital = d;
@@ -43,7 +43,7 @@ state_of d p =
       branches = branches_of p.has_branches p.branches;
     }
 
-abbrev pub held_of : Digital → Place → Held
+abbrev pub held_of : Digital → RunPlace → Held
 held_of d p =
     record {
       stage = stage_of p.stage p.search p.at_hi;

@@ -7,7 +7,7 @@ ghost use Rattle.above_events.specs.Locating.{with_point};
 ghost use Rattle.run_place.specs.Decisions.{needs_at, is_due_at, began, arrived_at, placed_at, delta_at, phase_at, search_at, end_with, at_tip_at};
 ghost use Rattle.message_codes.specs.Codes as codes;
 
-use crate::place::{Place, Stage};
+use crate::place::{RunPlace, Stage};
 use fix_core::Tick;
 use message_codes::{ATTEMPT_LIMIT, CYCLE_LIMIT, DELTA_LIMIT};
 use step_data::{Choices, End, Frame, Refusal};
@@ -35,7 +35,7 @@ pub fn until(next: &Option<Tick>, stop: Tick) -> Tick
     }
 }
 
-impl Place {
+impl RunPlace {
     /// A budget is spent: the run ends at the digital time.
     fn end_with(&mut self, code: u8)
         ensures { self.new ≡ end_with code self.old }

@@ -10,5 +10,5 @@ pub mod points;
 pub use decisions::{DELTAS, stands, until};
 pub use gathered::gather;
 pub use outcomes::go_on;
-pub use place::{Place, Stage};
+pub use place::{RunPlace, Stage};
 pub use points::Reached;

@@ -10,7 +10,7 @@ ghost use Rattle.above_events.specs.Locating.{with_point};
 ghost use Rattle.run_place.specs.Outcomes.{started_left, too_small, unsolvable_left, solution_left, refused_left, cycled_left, crossed_left, halved_left, sided_left, renewed_at};
 ghost use Rattle.run_place.specs.Decisions.{chosen_at, stepped_at};
 
-use crate::place::{Place, Stage};
+use crate::place::{RunPlace, Stage};
 use above_events::Locate;
 use fix_core::Tick;
 use message_codes::{SINGULAR, STEP_TOO_SMALL};
@@ -42,7 +42,7 @@ pub fn go_on(before: &mut Tip, tip: &mut Tip, made: &Attempt)
     }
 }
 
-impl Place {
+impl RunPlace {
     /// A point was given by these branches, where they were chosen.
     pub fn choose(&mut self, is_chosen: bool, branches: &Choices)
         requires { length self.old.branches ≡ length branches.now }

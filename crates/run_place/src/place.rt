@@ -23,7 +23,7 @@ pub enum Stage {
 
 /// All that a run holds between two works but the digital side, with the points and choices that it needs again.
 #[derive(Drop)]
-pub struct Place {
+pub struct RunPlace {
     pub stage: Stage,
     /// How many cycles, and how many attempts, side steps and probes are left.
     pub cycles_left: u32,

@@ -8,7 +8,7 @@ ghost use Rattle.step_data.specs.declared.event.Event.TheVariants.{Solved};
 ghost use Rattle.run_place.specs.Places.{branches_of};
 ghost use Rattle.run_place.specs.Giving.{changes_at, point_at, bound_at};
 
-use crate::place::Place;
+use crate::place::RunPlace;
 use fix_core::Tick;
 use std::alloc::{AllocError, Global};
 use step_data::{Choices, Event, EventList, Point};
@@ -90,7 +90,7 @@ fn give_solved(
     })
 }
 
-impl Place {
+impl RunPlace {
     /// Gives the branches that changed, where they were chosen.
     fn give_changes(
         &self,

@@ -1,7 +1,7 @@
 use Rattle.std.proofs.Common.{sym, ◌∙◌}
 use Rattle.above_events.specs.Locating.{with_point}
 use Rattle.run_place.proofs.Nearness.{none_is_near, some_is_far}
-use Rattle.run_place.proofs.place.Place.is_near.Goals as goal
+use Rattle.run_place.proofs.place.RunPlace.is_near.Goals as goal
 
 pub returns-in-None : goal.returns-in-None
 returns-in-None c =

@@ -1,6 +1,6 @@
 use Rattle.run_place.specs.Giving.{changes_at}
 use Rattle.run_place.proofs.Branching.{point_given}
-use Rattle.run_place.proofs.place.Place.give_point.Goals as goal
+use Rattle.run_place.proofs.place.RunPlace.give_point.Goals as goal
 
 pub returns-clause-ok : goal.returns-clause-ok
 returns-clause-ok c =

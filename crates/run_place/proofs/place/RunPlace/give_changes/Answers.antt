@@ -2,7 +2,7 @@ use Rattle.std.proofs.Common.{◌++◌, append-nil, sym, ap, ◌∙◌}
 use Rattle.lockstep_model.specs.Lockstep.{branch_events}
 use Rattle.run_place.specs.Giving.{olds_of, chosen_of}
 use Rattle.run_place.proofs.Branching.{same_branches}
-use Rattle.run_place.proofs.place.Place.give_changes.Goals as goal
+use Rattle.run_place.proofs.place.RunPlace.give_changes.Goals as goal
 
 pub returns-then-not-is_chosen-clause-ok : goal.returns-then-not-is_chosen-clause-ok
 returns-then-not-is_chosen-clause-ok c =

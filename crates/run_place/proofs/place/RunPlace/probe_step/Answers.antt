@@ -2,7 +2,7 @@ use Rattle.std.proofs.Common.{◌≡◌, true, sym, ◌∙◌}
 use Rattle.lockstep_model.specs.Crossing.{is_near, middle}
 use Rattle.above_events.specs.Locating.{with_point}
 use Rattle.run_place.proofs.Nearness.{none_is_near, some_is_middle}
-use Rattle.run_place.proofs.place.Place.probe_step.Goals as goal
+use Rattle.run_place.proofs.place.RunPlace.probe_step.Goals as goal
 
 pub returns-in-Some : goal.returns-in-Some
 returns-in-Some c =
