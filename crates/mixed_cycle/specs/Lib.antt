@@ -3,6 +3,7 @@ pub mod Choosing
 pub mod Cycling
 pub mod Decided
 pub mod Deciding
+pub mod First
 pub mod Gathering
 pub mod Landing
 pub mod Machine

@@ -1,19 +1,21 @@
 -- What an engine shows of itself, and what a move does to it.
-use Rattle.std.specs.Prelude.{◌≡◌, ◌≢◌, ℕ, List, ◌++◌, OnOk, OnErr, IfOk, Result, Ok, Err, refl}
+use Rattle.std.specs.Prelude.{◌≡◌, ◌≢◌, ℕ, List, [], ◌++◌, OnOk, OnErr, IfOk, Result, Ok, Err, refl}
 use Rattle.std.specs.declared.alloc.AllocError.{AllocError}
 use Rattle.std.proofs.Common.{ap, sym, subst, ◌∙◌}
 use Rattle.std.proofs.lemmas.List.{append_assoc}
 use Rattle.step_data.specs.declared.event.Event.{Event}
+use Rattle.step_data.specs.declared.outcome.End.{End}
 use Rattle.step_data.specs.declared.tip.Tip.{Tip}
 use Rattle.step_model.specs.Kernel.{KernelState, AddsFront}
 use Rattle.step_model.specs.System.{System, attempt}
-use Rattle.lockstep_model.specs.Works.{events_of}
+use Rattle.lockstep_model.specs.Works.{Work, events_of}
 use Rattle.lockstep_model.specs.Walk as w
-use Rattle.lockstep_model.specs.Walk.{Walk, Move, Reply, Fits, Keeps, Costs, Begins, EndsAll, Awaits, Spends, OwnsOne, Falls, moved}
+use Rattle.lockstep_model.specs.Walk.{Walk, Move, Reply, Fits, Keeps, Costs, Begins, EndsAll, Awaits, Spends, OwnsOne, Falls, moved, moved_at, proceed_to}
 use Rattle.lockstep_model.specs.declared.moves.Moved.{Moved}
+use Rattle.lockstep_model.specs.declared.moves.Moved.TheVariants as says
 use Rattle.cycle_machine.specs.Moves.{Moving, IsAhead, walk_of, move_of, moving}
 use Rattle.cycle_machine.specs.MoveLaws.{moving_is}
-use Rattle.cycle_machine.specs.RunLaws.{moving_keeps, moving_costs}
+use Rattle.cycle_machine.specs.RunLaws.{moving_keeps, moving_costs, moving_begins}
 use Rattle.mixed_cycle.specs.declared.machine.Awaited.{Awaited}
 use Rattle.mixed_cycle.specs.declared.machine.Awaited.TheVariants.{Ready, Looking, Settling, Broken}
 use Rattle.mixed_cycle.specs.declared.machine.Machine.{Machine}
@@ -34,6 +36,20 @@ pub record Kept {D S K : Type 0} (sys : System) (part : S → ℕ) (state : K �
   pub sound : m.awaited ≢ Broken → Sound sys part state m
   pub ahead : IsAhead sys (moment_of sys state m)
 
+-- where the end was told, every later move tells it again and changes nothing
+abbrev pub EndsAgain : Walk → Moved → Type 0
+EndsAgain w (says.Ended e) = (later : Reply) → moved w later ≡ record { walk = w; says = says.Ended e; events = []; computed = 0 }
+EndsAgain w (says.Ask ask) = Unit {0}
+
+ended_again : (w : Walk) (s : Moved) → Awaits w s → EndsAll w s → EndsAgain w s
+ended_again y (says.Ended e) awaits ended =
+    λ later.
+    ap (λ (a : w.Awaited). moved_at a later y) awaits
+    ∙ ap (λ (works : List Work). proceed_to works y) ended.0
+    ∙ ap (λ (a : w.Awaited). record { walk = record y { awaited = a }; says = says.Ended y.end; events = []; computed = 0 }) (sym awaits)
+    ∙ ap (λ (end : End). record { walk = y; says = says.Ended end; events = []; computed = 0 }) (sym ended.1)
+ended_again y (says.Ask ask) awaits ended = tt
+
 -- what a move does: the walk's move; the events go on as they would have, and the end is the same one; an attempt is found
 -- or made once, and the moves come to an end; where no memory is found a front of the events that are left was added
 pub record Follows (old new : Running) (reply : Reply) (out out' : List Event) (res : Result Moved AllocError) : Type 0 where
@@ -45,6 +61,8 @@ pub record Follows (old new : Running) (reply : Reply) (out out' : List Event) (
   pub end : OnOk res (new.walk.end ≡ old.walk.end)
   pub ended : IfOk res (EndsAll new.walk)
   pub awaits : IfOk res (Awaits new.walk)
+  pub again : IfOk res (EndsAgain new.walk)
+  pub begins : OnOk res (Begins old.walk reply (moved old.walk reply))
   pub spends : OnOk res (Spends old.walk new.walk reply)
   pub owns : OnOk res (OwnsOne old.walk new.walk reply)
   pub falls : IfOk res (Falls old.walk new.walk)
@@ -80,6 +98,10 @@ follows sys part count state m m' reply out out' (Ok said) ahead alive fits done
       end = ap (λ (y : Walk). y.end) walk ∙ keeps.end;
       ended = subst (λ (s : Moved). EndsAll (walk_of sys (moment_of sys state m')) s) (sym saying) (subst (λ (y : Walk). EndsAll y (moved W reply).says) (sym walk) keeps.ended);
       awaits = subst (λ (s : Moved). Awaits (walk_of sys (moment_of sys state m')) s) (sym saying) (subst (λ (y : Walk). Awaits y (moved W reply).says) (sym walk) keeps.awaits);
+      again =
+          subst (λ (s : Moved). EndsAgain (walk_of sys (moment_of sys state m')) s) (sym saying)
+          (subst (λ (y : Walk). EndsAgain y (moved W reply).says) (sym walk) (ended_again (moved W reply).walk (moved W reply).says keeps.awaits keeps.ended));
+      begins = subst (λ (v : Move). Begins W reply v) is (moving_begins (attempt sys) sys M reply ahead (alive-walk m.awaited m.place.tip alive) fits);
       spends = subst (λ (y : Walk). Spends W y reply) (sym walk) costs.spends;
       owns = subst (λ (y : Walk). OwnsOne W y reply) (sym walk) costs.owns;
       falls = subst (λ (s : Moved). Falls W (walk_of sys (moment_of sys state m')) s) (sym saying) (subst (λ (y : Walk). Falls W y (moved W reply).says) (sym walk) costs.falls);
@@ -97,6 +119,8 @@ follows sys part count state m m' reply out out' (Err fault) ahead alive fits do
       end = tt;
       ended = tt;
       awaits = tt;
+      again = tt;
+      begins = tt;
       spends = tt;
       owns = tt;
       falls = tt;

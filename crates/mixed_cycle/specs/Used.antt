@@ -108,10 +108,10 @@ asked-tip : {D S K : Type 0} (sys : System) (part : S → ℕ) (state : K → Ke
 asked-tip sys part state m awaits = ap (λ (x : Awaited). asked_of x m.asked m.place.tip) awaits
 
 -- the walk of a machine, by what it holds and awaits
-walk-is : {D S K : Type 0} (sys : System) (state : K → KernelState) (m : Machine D S K) (held : Held) (awaited : w.Awaited) (tip : Tip) (frame : List Val) (own cycles : ℕ) →
+pub walk_is : {D S K : Type 0} (sys : System) (state : K → KernelState) (m : Machine D S K) (held : Held) (awaited : w.Awaited) (tip : Tip) (frame : List Val) (own cycles : ℕ) →
     held_of (digital_at sys (state m.kernel)) m.place ≡ held → awaited_of m.awaited m.place.tip ≡ awaited → asked_of m.awaited m.asked m.place.tip ≡ tip → m.frame ≡ frame → m.own ≡ own → m.cycles ≡ cycles →
     walk_of sys (moment_of sys state m) ≡ walk_of sys (record { held = held; awaited = awaited; tip = tip; frame = frame; own = own; cycles = cycles })
-walk-is sys state m held awaited tip frame own cycles a b c d e f =
+walk_is sys state m held awaited tip frame own cycles a b c d e f =
     let M = moment_of sys state m in
     ap (λ (x : Held). walk_of sys (record M { held = x })) a
     ∙ ap (λ (x : w.Awaited). walk_of sys (record M { held = held; awaited = x })) b
@@ -173,7 +173,7 @@ own_used {D = D} {S = S} {K = K} sys part count state m a bs is_chosen gives cro
         walk_of sys (record (moment_of sys state m) { held = held-behind sys (state_of (state m.kernel).digital m.place) a m.place.cycles_left (m.place.tries_left - 1) crosses; awaited = cond crosses w.Ready (w.Settling true (next (moment_of sys state m).tip a)); own = more m.own })
     own-walk {D = D} {S = S} {K = K} sys part state m a bs is_chosen gives true s' P A aw n u one left goes awaits =
         let m' : Machine D S K = record m { stepper = s'; made = a; branches = bs; place = P; asked = A; awaited = aw; own = n } in
-        walk-is sys state m' (held-behind sys (state_of (state m.kernel).digital m.place) a m.place.cycles_left (m.place.tries_left - 1) true) w.Ready (moment_of sys state m).tip m.frame (more m.own) m.cycles
+        walk_is sys state m' (held-behind sys (state_of (state m.kernel).digital m.place) a m.place.cycles_left (m.place.tries_left - 1) true) w.Ready (moment_of sys state m).tip m.frame (more m.own) m.cycles
         (held-is sys part state m a bs is_chosen gives true P u left)
         (ap (λ (x : Awaited). awaited_of x P.tip) awaits)
         (ap (λ (x : Awaited). asked_of x A P.tip) awaits ∙ ap (λ (y : RunPlace). y.tip) left ∙ sym (asked-tip sys part state m u.awaits))
@@ -182,7 +182,7 @@ own_used {D = D} {S = S} {K = K} sys part count state m a bs is_chosen gives cro
         let m' : Machine D S K = record m { stepper = s'; made = a; branches = bs; place = P; asked = A; awaited = aw; own = n } in
         let tip : P.tip ≡ next m.place.tip a =
         ap (λ (y : RunPlace). y.tip) left ∙ passed-tip (is_failed a.kind) gives is_chosen a bs m.place (next m.place.tip a) in
-        walk-is sys state m' (held-behind sys (state_of (state m.kernel).digital m.place) a m.place.cycles_left (m.place.tries_left - 1) false) (w.Settling true (next (moment_of sys state m).tip a)) (moment_of sys state m).tip m.frame (more m.own) m.cycles
+        walk_is sys state m' (held-behind sys (state_of (state m.kernel).digital m.place) a m.place.cycles_left (m.place.tries_left - 1) false) (w.Settling true (next (moment_of sys state m).tip a)) (moment_of sys state m).tip m.frame (more m.own) m.cycles
         (held-is sys part state m a bs is_chosen gives false P u left)
         (ap (λ (x : Awaited). awaited_of x P.tip) awaits ∙ ap (λ (t : Tip). w.Settling true t) (tip ∙ ap (λ (t : Tip). next t a) (sym (asked-tip sys part state m u.awaits))))
         (ap (λ (x : Awaited). asked_of x A P.tip) awaits ∙ goes refl ∙ sym (asked-tip sys part state m u.awaits))
@@ -271,7 +271,7 @@ found_used {D = D} {S = S} {K = K} sys part count state m a bs is_chosen gives f
     (record {
       sound = used-sound sys part state m a m.made bs is_chosen gives false s' P A (Settling false) m.own u part_is u.sound.room.made left keeps goes;
       walk =
-          walk-is sys state m' H (w.Settling false (next M.tip a)) M.tip m.frame m.own m.cycles
+          walk_is sys state m' H (w.Settling false (next M.tip a)) M.tip m.frame m.own m.cycles
           (held-is sys part state m a bs is_chosen gives false P u left)
           (ap (λ (t : Tip). w.Settling false t) (tip ∙ ap (λ (t : Tip). next t a) (sym at)))
           (goes refl ∙ sym at)

@@ -7,6 +7,7 @@ pub mod cycle;
 pub mod decide;
 pub mod drive;
 pub mod engine;
+pub mod first;
 pub mod found;
 pub mod machine;
 pub mod own;

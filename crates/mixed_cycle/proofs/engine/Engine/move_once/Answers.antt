@@ -36,6 +36,10 @@ pub returns-in-Ok-clause-awaits : goal.returns-in-Ok-clause-awaits
 returns-in-Ok-clause-awaits g c =
     (follows_from (g.D.Design.system 0) g.S.Stepper.part g.S.Stepper.count g.K.Kernel.state c.self.inside.machine c.move_by.new.self c.args.self.now (reply_of c.args.answer.now) c.args.out.now c.move_by.new.out (Ok c.in-Ok.said) (sym c.self.view_is) c.self.invariant.ahead c.in-Ok.ensures.alive c.requires.fits c.in-Ok.ensures.performs).awaits
 
+pub returns-in-Ok-clause-again : goal.returns-in-Ok-clause-again
+returns-in-Ok-clause-again g c =
+    (follows_from (g.D.Design.system 0) g.S.Stepper.part g.S.Stepper.count g.K.Kernel.state c.self.inside.machine c.move_by.new.self c.args.self.now (reply_of c.args.answer.now) c.args.out.now c.move_by.new.out (Ok c.in-Ok.said) (sym c.self.view_is) c.self.invariant.ahead c.in-Ok.ensures.alive c.requires.fits c.in-Ok.ensures.performs).again
+
 pub returns-in-Ok-clause-spends : goal.returns-in-Ok-clause-spends
 returns-in-Ok-clause-spends g c =
     (follows_from (g.D.Design.system 0) g.S.Stepper.part g.S.Stepper.count g.K.Kernel.state c.self.inside.machine c.move_by.new.self c.args.self.now (reply_of c.args.answer.now) c.args.out.now c.move_by.new.out (Ok c.in-Ok.said) (sym c.self.view_is) c.self.invariant.ahead c.in-Ok.ensures.alive c.requires.fits c.in-Ok.ensures.performs).spends
@@ -43,6 +47,10 @@ returns-in-Ok-clause-spends g c =
 pub returns-in-Ok-clause-owns : goal.returns-in-Ok-clause-owns
 returns-in-Ok-clause-owns g c =
     (follows_from (g.D.Design.system 0) g.S.Stepper.part g.S.Stepper.count g.K.Kernel.state c.self.inside.machine c.move_by.new.self c.args.self.now (reply_of c.args.answer.now) c.args.out.now c.move_by.new.out (Ok c.in-Ok.said) (sym c.self.view_is) c.self.invariant.ahead c.in-Ok.ensures.alive c.requires.fits c.in-Ok.ensures.performs).owns
+
+pub returns-in-Ok-clause-begins : goal.returns-in-Ok-clause-begins
+returns-in-Ok-clause-begins g c =
+    (follows_from (g.D.Design.system 0) g.S.Stepper.part g.S.Stepper.count g.K.Kernel.state c.self.inside.machine c.move_by.new.self c.args.self.now (reply_of c.args.answer.now) c.args.out.now c.move_by.new.out (Ok c.in-Ok.said) (sym c.self.view_is) c.self.invariant.ahead c.in-Ok.ensures.alive c.requires.fits c.in-Ok.ensures.performs).begins
 
 pub returns-in-Ok-clause-falls : goal.returns-in-Ok-clause-falls
 returns-in-Ok-clause-falls g c =
