@@ -33,6 +33,7 @@ use Rattle.mixed_cycle.specs.Deciding.{digital_going}
 use Rattle.mixed_cycle.specs.Machine.{Sound}
 use Rattle.mixed_cycle.specs.Trying.{TriedNext, tried_ahead}
 use Rattle.mixed_cycle.specs.Using.{gives_at, crosses_at, given_at, ended_by, passed_events, used_left, used_events}
+use Rattle.run_place.specs.Budgets.{run_budget}
 
 -- what is known where an attempt is used
 pub record Uses {D S K : Type 0} (sys : System) (part : S → ℕ) (state : K → KernelState) (m : Machine D S K) (a : Attempt) (bs : List ℕ) (is_chosen gives crosses : Bool) : Type 0 where
@@ -56,7 +57,7 @@ pub record Attempts (sys : System) (k : KernelState) (frame : List Val) (cycles 
   pub behind : HasStep sys.options (next p.tip a).h
   pub until : a.end ≤ l.until sys (state_of k.digital p)
   pub step : IsStep p.tip.h
-  pub few : cycles + p.cycles_left ≤ 200000
+  pub few : cycles + p.cycles_left ≤ run_budget
 
 in-time : (e until : ℕ) → nat_le e until ≡ true → e ≤ until
 in-time e until is = grind (arith, nat_tests)
@@ -68,7 +69,7 @@ attempts sys part state m a s ahead made =
     let d = k.digital in
     let stage : p.stage ≡ stages.InPhase = (tried_ahead sys (digital_at sys k) p ahead).stage in
     let phase : IsPhase sys k m.frame p.time p.timed p.tip = subst (λ (x : Stage). StandsBy x sys k m.frame p) stage s.stands.stands in
-    let few : m.cycles + (p.cycles_left + 0) ≤ 200000 = subst (λ (x : Stage). m.cycles + (p.cycles_left + pending x) ≤ 200000) stage s.stands.few in
+    let few : m.cycles + (p.cycles_left + 0) ≤ run_budget = subst (λ (x : Stage). m.cycles + (p.cycles_left + pending x) ≤ run_budget) stage s.stands.few in
     let going : digital_at sys k ≡ d = digital_going sys k phase.goes.stage in
     let tried : TriedNext sys d p = subst (λ (y : Digital). TriedNext sys y p) going (tried_ahead sys (digital_at sys k) p ahead) in
     let from : AttemptFrom sys.options p.tip a = subst (λ (y : Attempt). AttemptFrom sys.options p.tip y) (sym made) (attempt_from sys m.frame p.tip s.stands.fits.step) in
@@ -179,7 +180,7 @@ record TipFits (sys : System) (until t : ℕ) (x : List ℤ) : Type 0 where
   most : t ≤ until
   fits : length x ≡ sys.unknowns
 
-given-stands : (failed : Bool) (sys : System) (k : KernelState) (frame : List Val) (cycles : ℕ) (gives is_chosen : Bool) (bs : List ℕ) (p : RunPlace) (a : Attempt) (t : Tip) → length bs ≡ sys.choices → p.stage ≡ stages.InPhase → Fits sys p.time p.point t p.at_hi p.solved p.gathered p.branches → IsPhase sys k frame p.time p.timed t → cycles + p.cycles_left ≤ 200000 →
+given-stands : (failed : Bool) (sys : System) (k : KernelState) (frame : List Val) (cycles : ℕ) (gives is_chosen : Bool) (bs : List ℕ) (p : RunPlace) (a : Attempt) (t : Tip) → length bs ≡ sys.choices → p.stage ≡ stages.InPhase → Fits sys p.time p.point t p.at_hi p.solved p.gathered p.branches → IsPhase sys k frame p.time p.timed t → cycles + p.cycles_left ≤ run_budget →
     Stands sys k frame cycles (ended_by failed a (record (given_at gives is_chosen bs (counted p)) { tip = t }))
 given-stands true sys k frame cycles true true bs p a t room e f phase few =
     record { fits = record { time_most = f.time_most; point_fits = f.point_fits; tip_fits = f.tip_fits; tip_most = f.tip_most; step = f.step; at_hi_fits = f.at_hi_fits; solved_fits = f.solved_fits; elements = f.elements; branches_fit = room }; stands = tt; few = omega arith }
@@ -189,19 +190,19 @@ given-stands false sys k frame cycles true true bs p a t room e f phase few =
     record {
       fits = record { time_most = f.time_most; point_fits = f.point_fits; tip_fits = f.tip_fits; tip_most = f.tip_most; step = f.step; at_hi_fits = f.at_hi_fits; solved_fits = f.solved_fits; elements = f.elements; branches_fit = room };
       stands = subst (λ (y : Stage). StandsBy y sys k frame (record (given_at true true bs (counted p)) { tip = t })) (sym e) phase;
-      few = subst (λ (y : Stage). cycles + (p.cycles_left + pending y) ≤ 200000) (sym e) (omega arith);
+      few = subst (λ (y : Stage). cycles + (p.cycles_left + pending y) ≤ run_budget) (sym e) (omega arith);
     }
 given-stands false sys k frame cycles true false bs p a t room e f phase few =
     record {
       fits = f;
       stands = subst (λ (y : Stage). StandsBy y sys k frame (record (counted p) { tip = t })) (sym e) phase;
-      few = subst (λ (y : Stage). cycles + (p.cycles_left + pending y) ≤ 200000) (sym e) (omega arith);
+      few = subst (λ (y : Stage). cycles + (p.cycles_left + pending y) ≤ run_budget) (sym e) (omega arith);
     }
 given-stands false sys k frame cycles false is_chosen bs p a t room e f phase few =
     record {
       fits = f;
       stands = subst (λ (y : Stage). StandsBy y sys k frame (record (counted p) { tip = t })) (sym e) phase;
-      few = subst (λ (y : Stage). cycles + (p.cycles_left + pending y) ≤ 200000) (sym e) (omega arith);
+      few = subst (λ (y : Stage). cycles + (p.cycles_left + pending y) ≤ run_budget) (sym e) (omega arith);
     }
 
 until-stop : (next : Option ℕ) (stop : ℕ) → l.until_of next stop ≤ stop

@@ -38,6 +38,7 @@ use Rattle.mixed_cycle.specs.Deciding.{digital_going}
 use Rattle.mixed_cycle.specs.Solving.{first_step}
 use Rattle.mixed_cycle.specs.Machine.{Sound, moment_of}
 use Rattle.mixed_cycle.specs.Making.{Performs, worked, work_done, work_lost, still_sound}
+use Rattle.run_place.specs.Budgets.{run_budget}
 
 -- what the call of a cycle gives at a kernel that goes on
 abbrev pub cycle_from : System → KernelState → RunPlace → Bool → CycleOutcome
@@ -79,7 +80,7 @@ left-held : (d : Digital) (p : RunPlace) (to_time broke renewed : Bool) (h0 : �
 left-held d p to_time broke true h0 gathered = refl
 left-held d p to_time broke false h0 gathered = refl
 
-left-stands : (sys : System) (k' : KernelState) (frame' : List Val) (cycles : ℕ) (p : RunPlace) (to_time broke renewed : Bool) (h0 : ℕ) (gathered : List Element) → PlaceFits sys p → All (λ e. IsTrue (sys.is_element e)) gathered → HasStep sys.options h0 → p.tip.t ≤ p.time → cycles + (p.cycles_left + 1) ≤ 200000 →
+left-stands : (sys : System) (k' : KernelState) (frame' : List Val) (cycles : ℕ) (p : RunPlace) (to_time broke renewed : Bool) (h0 : ℕ) (gathered : List Element) → PlaceFits sys p → All (λ e. IsTrue (sys.is_element e)) gathered → HasStep sys.options h0 → p.tip.t ≤ p.time → cycles + (p.cycles_left + 1) ≤ run_budget →
     k'.stage ≡ Going → frame' ≡ sys.frame k'.digital → k'.digital.timed ≡ (p.timed || to_time) → k'.digital.time ≡ p.time →
     Stands sys k' frame' (1 + cycles) (cycled_left to_time h0 broke renewed (record p { gathered = gathered }))
 left-stands sys k' frame' cycles p to_time broke true h0 gathered f all st tip few going frame timed time =
@@ -123,7 +124,7 @@ cycle_done {D = D} {S = S} {K = K} sys part count state m kernel gathered frame 
     let d = k.digital in
     let q = state_of d p in
     let delta : IsDelta sys k m.frame p.time p.timed p.tip to_time = subst (λ (x : Stage). StandsBy x sys k m.frame p) e s.stands.stands in
-    let few : m.cycles + (p.cycles_left + 1) ≤ 200000 = subst (λ (x : Stage). m.cycles + (p.cycles_left + pending x) ≤ 200000) e s.stands.few in
+    let few : m.cycles + (p.cycles_left + 1) ≤ run_budget = subst (λ (x : Stage). m.cycles + (p.cycles_left + pending x) ≤ run_budget) e s.stands.few in
     let going : digital_at sys k ≡ d = digital_going sys k delta.goes.stage in
     let from : cycle_from sys k p to_time ≡ l.cycle_at sys to_time q = cycle_going sys k p to_time delta.goes.stage in
     let ran : (l.cycle_at sys to_time q).ran ≡ rans.Done broke = ap (λ (c : CycleOutcome). c.ran) (sym from) ∙ sym call.ran_is in
@@ -184,7 +185,7 @@ cycle_refused {D = D} {S = S} {K = K} sys part count state m kernel refusal to_t
     let d = k.digital in
     let q = state_of d p in
     let delta : IsDelta sys k m.frame p.time p.timed p.tip to_time = subst (λ (x : Stage). StandsBy x sys k m.frame p) e s.stands.stands in
-    let few : m.cycles + (p.cycles_left + 1) ≤ 200000 = subst (λ (x : Stage). m.cycles + (p.cycles_left + pending x) ≤ 200000) e s.stands.few in
+    let few : m.cycles + (p.cycles_left + 1) ≤ run_budget = subst (λ (x : Stage). m.cycles + (p.cycles_left + pending x) ≤ run_budget) e s.stands.few in
     let going : digital_at sys k ≡ d = digital_going sys k delta.goes.stage in
     let from : cycle_from sys k p to_time ≡ l.cycle_at sys to_time q = cycle_going sys k p to_time delta.goes.stage in
     let ran : (l.cycle_at sys to_time q).ran ≡ rans.Refused refusal = ap (λ (c : CycleOutcome). c.ran) (sym from) ∙ sym call.ran_is in

@@ -13,22 +13,24 @@ use Rattle.run_place.specs.declared.place.RunPlace.{RunPlace}
 use Rattle.run_place.specs.declared.place.Stage.TheVariants as stages
 use Rattle.run_place.specs.Decisions as c
 use Rattle.mixed_cycle.specs.Standing.{PlaceFits, Goes, IsPlaced, IsDelta, IsPhase, IsSearch, StandsBy, Stands, pending}
+use Rattle.run_place.specs.Budgets.{delta_budget, run_budget}
+use Rattle.message_codes.specs.Codes as codes
 
 -- a delta is begun where its cycle may be made
-pub began_stands : (sys : System) (k : KernelState) (frame : List Val) (cycles : ℕ) (to_time : Bool) (p : RunPlace) → PlaceFits sys p → IsDelta sys k frame p.time p.timed p.tip to_time → cycles + p.cycles_left ≤ 200000 → Stands sys k frame cycles (c.began to_time p)
+pub began_stands : (sys : System) (k : KernelState) (frame : List Val) (cycles : ℕ) (to_time : Bool) (p : RunPlace) → PlaceFits sys p → IsDelta sys k frame p.time p.timed p.tip to_time → cycles + p.cycles_left ≤ run_budget → Stands sys k frame cycles (c.began to_time p)
 began_stands sys k frame cycles to_time p fits delta few =
     elim (p.cycles_left == 0) as
-    (λ b. (p.cycles_left == 0) ≡ b → Stands sys k frame cycles (cond b (c.end_with 75 p) (record p { stage = stages.InDelta to_time; cycles_left = p.cycles_left - 1 }))) [
+    (λ b. (p.cycles_left == 0) ≡ b → Stands sys k frame cycles (cond b (c.end_with codes.cycle_limit p) (record p { stage = stages.InDelta to_time; cycles_left = p.cycles_left - 1 }))) [
       | true ↦ λ e. record { fits = fits; stands = tt; few = omega arith }
       | false ↦ λ e.
           let some : 1 ≤ p.cycles_left = grind (arith, nat_tests) in
           record { fits = fits; stands = delta; few = omega arith }
     ] refl
 
-reached-stands : (sys : System) (k : KernelState) (frame : List Val) (cycles : ℕ) (p : RunPlace) → PlaceFits sys p → cycles + p.cycles_left ≤ 200000 → Stands sys k frame cycles (c.reached p)
+reached-stands : (sys : System) (k : KernelState) (frame : List Val) (cycles : ℕ) (p : RunPlace) → PlaceFits sys p → cycles + p.cycles_left ≤ run_budget → Stands sys k frame cycles (c.reached p)
 reached-stands sys k frame cycles p fits few = record { fits = fits; stands = tt; few = omega arith }
 
-pub arrived_stands : (sys : System) (k : KernelState) (frame : List Val) (cycles : ℕ) (p : RunPlace) → PlaceFits sys p → IsDelta sys k frame p.time p.timed p.tip false → cycles + p.cycles_left ≤ 200000 → Stands sys k frame cycles (c.arrived_at (sys.next_time k.digital) p)
+pub arrived_stands : (sys : System) (k : KernelState) (frame : List Val) (cycles : ℕ) (p : RunPlace) → PlaceFits sys p → IsDelta sys k frame p.time p.timed p.tip false → cycles + p.cycles_left ≤ run_budget → Stands sys k frame cycles (c.arrived_at (sys.next_time k.digital) p)
 arrived_stands sys k frame cycles p fits delta few =
     elim (stands (sys.next_time k.digital) p.time) as
     (λ b. Stands sys k frame cycles (cond b (c.began false p) (c.reached p))) [
@@ -36,10 +38,10 @@ arrived_stands sys k frame cycles p fits delta few =
       | false ↦ reached-stands sys k frame cycles p fits few
     ]
 
-deeper-stands : (sys : System) (k : KernelState) (frame : List Val) (cycles : ℕ) (to_time : Bool) (p : RunPlace) → PlaceFits sys p → IsDelta sys k frame p.time p.timed p.tip to_time → cycles + p.cycles_left ≤ 200000 → Stands sys k frame cycles (c.deeper_at to_time p)
+deeper-stands : (sys : System) (k : KernelState) (frame : List Val) (cycles : ℕ) (to_time : Bool) (p : RunPlace) → PlaceFits sys p → IsDelta sys k frame p.time p.timed p.tip to_time → cycles + p.cycles_left ≤ run_budget → Stands sys k frame cycles (c.deeper_at to_time p)
 deeper-stands sys k frame cycles to_time p fits delta few =
-    elim (nat_le 1000 p.delta) as
-    (λ b. Stands sys k frame cycles (cond b (c.end_with 72 p) (c.began to_time (record p { delta = p.delta + 1 })))) [
+    elim (nat_le delta_budget p.delta) as
+    (λ b. Stands sys k frame cycles (cond b (c.end_with codes.delta_limit p) (c.began to_time (record p { delta = p.delta + 1 })))) [
       | true ↦ record { fits = fits; stands = tt; few = omega arith }
       | false ↦ began_stands sys k frame cycles to_time (record p { delta = p.delta + 1 }) fits delta few
     ]
@@ -61,7 +63,7 @@ or_left : (a b : Bool) → (a || b) ≡ false → a ≡ false
 or_left true b h = h
 or_left false b h = refl
 
-pub placed_stands : (sys : System) (k : KernelState) (frame : List Val) (cycles : ℕ) (p : RunPlace) → PlaceFits sys p → IsPlaced sys k frame p.time p.timed p.tip → IfSome (sys.next_time k.digital) (λ m. k.digital.time ≤ m) → cycles + p.cycles_left ≤ 200000 → Stands sys k frame cycles (c.placed_at (sys.next_time k.digital) frame sys.options.stop p)
+pub placed_stands : (sys : System) (k : KernelState) (frame : List Val) (cycles : ℕ) (p : RunPlace) → PlaceFits sys p → IsPlaced sys k frame p.time p.timed p.tip → IfSome (sys.next_time k.digital) (λ m. k.digital.time ≤ m) → cycles + p.cycles_left ≤ run_budget → Stands sys k frame cycles (c.placed_at (sys.next_time k.digital) frame sys.options.stop p)
 placed_stands sys k frame cycles p fits placed later few =
     let due = c.is_due_at p (sys.next_time k.digital) frame in
     elim (due || not p.timed) as
@@ -84,7 +86,7 @@ placed_stands sys k frame cycles p fits placed later few =
 pub delta_stands : (sys : System) (k : KernelState) (frame : List Val) (cycles : ℕ) (to_time : Bool) (p : RunPlace) → p.stage ≡ stages.InDelta to_time → Stands sys k frame cycles p → Stands sys k frame cycles (c.delta_at to_time frame p)
 delta_stands sys k frame cycles to_time p e s =
     let delta : IsDelta sys k frame p.time p.timed p.tip to_time = subst (λ x. StandsBy x sys k frame p) e s.stands in
-    let few : cycles + (p.cycles_left + pending (stages.InDelta to_time)) ≤ 200000 = subst (λ x. cycles + (p.cycles_left + pending x) ≤ 200000) e s.few in
+    let few : cycles + (p.cycles_left + pending (stages.InDelta to_time)) ≤ run_budget = subst (λ x. cycles + (p.cycles_left + pending x) ≤ run_budget) e s.few in
     elim (c.needs_at p frame) as (λ b. Stands sys k frame cycles (cond b p (record p { stage = stages.InCycle to_time }))) [
       | true ↦ s
       | false ↦ record { fits = s.fits; stands = delta; few = few }
@@ -101,7 +103,7 @@ until_next (Some m) stop t low = omega arith
 tried-stands : (sys : System) (k : KernelState) (frame : List Val) (cycles : ℕ) (p : RunPlace) → Stands sys k frame cycles p → Stands sys k frame cycles (c.tried_at p)
 tried-stands sys k frame cycles p s =
     let few = s.few in
-    elim (p.tries_left == 0) as (λ b. Stands sys k frame cycles (cond b (c.end_with 76 p) p)) [
+    elim (p.tries_left == 0) as (λ b. Stands sys k frame cycles (cond b (c.end_with codes.attempt_limit p) p)) [
       | true ↦ record { fits = s.fits; stands = tt; few = omega arith }
       | false ↦ s
     ]
@@ -145,9 +147,9 @@ stepped-is P false branches t p h = h
 -- a place at a time to which a step was made, where a delta may begin
 record CanArrive (sys : System) (k : KernelState) (frame : List Val) (cycles t : ℕ) (timed : Bool) (tip : Tip) (left : ℕ) : Type 0 where
   delta : IsDelta sys k frame t timed tip false
-  few : cycles + left ≤ 200000
+  few : cycles + left ≤ run_budget
 
-can-arrive : (sys : System) (k : KernelState) (frame : List Val) (cycles t : ℕ) (p : RunPlace) → Goes sys k frame p.time p.timed → p.time ≤ t → p.tip.t ≤ t → t ≤ until_of (sys.next_time k.digital) sys.options.stop → cycles + p.cycles_left ≤ 200000 → CanArrive sys k frame cycles t p.timed p.tip p.cycles_left
+can-arrive : (sys : System) (k : KernelState) (frame : List Val) (cycles t : ℕ) (p : RunPlace) → Goes sys k frame p.time p.timed → p.time ≤ t → p.tip.t ≤ t → t ≤ until_of (sys.next_time k.digital) sys.options.stop → cycles + p.cycles_left ≤ run_budget → CanArrive sys k frame cycles t p.timed p.tip p.cycles_left
 can-arrive sys k frame cycles t p goes later tip until few =
     let old = goes.began in
     record {
@@ -161,13 +163,13 @@ can-arrive sys k frame cycles t p goes later tip until few =
       few = few;
     }
 
-pub stepped_begins : (sys : System) (k : KernelState) (frame : List Val) (cycles t : ℕ) (is_chosen : Bool) (branches : List ℕ) (p : RunPlace) → PlaceFits sys p → length branches ≡ sys.choices → Goes sys k frame p.time p.timed → p.time ≤ t → p.tip.t ≤ t → t ≤ until_of (sys.next_time k.digital) sys.options.stop → cycles + p.cycles_left ≤ 200000 → Stands sys k frame cycles (c.began false (c.stepped_at t is_chosen branches p))
+pub stepped_begins : (sys : System) (k : KernelState) (frame : List Val) (cycles t : ℕ) (is_chosen : Bool) (branches : List ℕ) (p : RunPlace) → PlaceFits sys p → length branches ≡ sys.choices → Goes sys k frame p.time p.timed → p.time ≤ t → p.tip.t ≤ t → t ≤ until_of (sys.next_time k.digital) sys.options.stop → cycles + p.cycles_left ≤ run_budget → Stands sys k frame cycles (c.began false (c.stepped_at t is_chosen branches p))
 stepped_begins sys k frame cycles t is_chosen branches p fits room goes later tip until few =
     let most = until-least (sys.next_time k.digital) sys.options.stop in
     let can = stepped-is (CanArrive sys k frame cycles) is_chosen branches t p (can-arrive sys k frame cycles t p goes later tip until few) in
     began_stands sys k frame cycles false (c.stepped_at t is_chosen branches p) (stepped-fits sys is_chosen branches t p (omega arith) room fits) can.delta can.few
 
-pub stepped_arrives : (sys : System) (k : KernelState) (frame : List Val) (cycles t : ℕ) (is_chosen : Bool) (branches : List ℕ) (p : RunPlace) → PlaceFits sys p → length branches ≡ sys.choices → Goes sys k frame p.time p.timed → p.time ≤ t → p.tip.t ≤ t → t ≤ until_of (sys.next_time k.digital) sys.options.stop → cycles + p.cycles_left ≤ 200000 → Stands sys k frame cycles (c.arrived_at (sys.next_time k.digital) (c.stepped_at t is_chosen branches p))
+pub stepped_arrives : (sys : System) (k : KernelState) (frame : List Val) (cycles t : ℕ) (is_chosen : Bool) (branches : List ℕ) (p : RunPlace) → PlaceFits sys p → length branches ≡ sys.choices → Goes sys k frame p.time p.timed → p.time ≤ t → p.tip.t ≤ t → t ≤ until_of (sys.next_time k.digital) sys.options.stop → cycles + p.cycles_left ≤ run_budget → Stands sys k frame cycles (c.arrived_at (sys.next_time k.digital) (c.stepped_at t is_chosen branches p))
 stepped_arrives sys k frame cycles t is_chosen branches p fits room goes later tip until few =
     let most = until-least (sys.next_time k.digital) sys.options.stop in
     let can = stepped-is (CanArrive sys k frame cycles) is_chosen branches t p (can-arrive sys k frame cycles t p goes later tip until few) in

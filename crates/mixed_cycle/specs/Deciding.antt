@@ -22,11 +22,13 @@ use Rattle.mixed_cycle.specs.declared.machine.Machine.{Machine}
 use Rattle.mixed_cycle.specs.Standing.{Stands, StandsBy, IsPlaced, IsDelta, IsPhase, IsSearch, digital_at, digital_by, cycles_ahead, pending}
 use Rattle.mixed_cycle.specs.Decided.{placed_stands, delta_stands, phase_stands, search_stands}
 use Rattle.mixed_cycle.specs.Machine.{Sound, Decides, moment_with}
+use Rattle.run_place.specs.Budgets.{delta_budget, run_budget}
+use Rattle.message_codes.specs.Codes as codes
 
 -- decisions keep the tip
 began-tip : (b : Bool) (p : RunPlace) → (c.began b p).tip ≡ p.tip
 began-tip b p =
-    elim (p.cycles_left == 0) as (λ t. (cond t (c.end_with 75 p) (record p { stage = stages.InDelta b; cycles_left = p.cycles_left - 1 })).tip ≡ p.tip) [ true ↦ refl | false ↦ refl ]
+    elim (p.cycles_left == 0) as (λ t. (cond t (c.end_with codes.cycle_limit p) (record p { stage = stages.InDelta b; cycles_left = p.cycles_left - 1 })).tip ≡ p.tip) [ true ↦ refl | false ↦ refl ]
 
 pub arrived_tip : (next : Option ℕ) (p : RunPlace) → (c.arrived_at next p).tip ≡ p.tip
 arrived_tip next p =
@@ -34,7 +36,7 @@ arrived_tip next p =
 
 deeper-tip : (b : Bool) (p : RunPlace) → (c.deeper_at b p).tip ≡ p.tip
 deeper-tip b p =
-    elim (nat_le 1000 p.delta) as (λ t. (cond t (c.end_with 72 p) (c.began b (record p { delta = p.delta + 1 }))).tip ≡ p.tip) [
+    elim (nat_le delta_budget p.delta) as (λ t. (cond t (c.end_with codes.delta_limit p) (c.began b (record p { delta = p.delta + 1 }))).tip ≡ p.tip) [
       | true ↦ refl
       | false ↦ began-tip b (record p { delta = p.delta + 1 })
     ]
@@ -55,7 +57,7 @@ phase-tip : (next : Option ℕ) (stop : ℕ) (p : RunPlace) → (c.phase_at next
 phase-tip next stop p =
     elim (p.tip.t == until_of next stop) as (λ t. (cond t (c.arrived_at next (c.at_tip_at (until_of next stop) p)) (c.tried_at p)).tip ≡ p.tip) [
       | true ↦ arrived_tip next (c.at_tip_at (until_of next stop) p)
-      | false ↦ elim (p.tries_left == 0) as (λ t. (cond t (c.end_with 76 p) p).tip ≡ p.tip) [ true ↦ refl | false ↦ refl ]
+      | false ↦ elim (p.tries_left == 0) as (λ t. (cond t (c.end_with codes.attempt_limit p) p).tip ≡ p.tip) [ true ↦ refl | false ↦ refl ]
     ]
 
 -- a kernel that goes on has its own digital side
@@ -87,9 +89,9 @@ decides_by sys part count state m p s held tip stands =
 abbrev pub with_place : {D S K : Type 0} → Machine D S K → RunPlace → Machine D S K
 with_place m p = record m { place = p }
 
-few-placed : (cycles : ℕ) (p : RunPlace) → p.stage ≡ stages.Placed → cycles + cycles_ahead p ≤ 200000 → cycles + p.cycles_left ≤ 200000
+few-placed : (cycles : ℕ) (p : RunPlace) → p.stage ≡ stages.Placed → cycles + cycles_ahead p ≤ run_budget → cycles + p.cycles_left ≤ run_budget
 few-placed cycles p e few =
-    let sum : cycles + (p.cycles_left + pending stages.Placed) ≤ 200000 = subst (λ x. cycles + (p.cycles_left + pending x) ≤ 200000) e few in
+    let sum : cycles + (p.cycles_left + pending stages.Placed) ≤ run_budget = subst (λ x. cycles + (p.cycles_left + pending x) ≤ run_budget) e few in
     omega arith
 
 pub place_decides : {D S K : Type 0} (sys : System) (part count : S → ℕ) (state : K → KernelState) (m : Machine D S K) → Sound sys part state m → m.place.stage ≡ stages.Placed → IfSome (sys.next_time (state m.kernel).digital) (λ n. (state m.kernel).digital.time ≤ n) → Decides sys part count state m (with_place m (c.placed_at (sys.next_time (state m.kernel).digital) m.frame sys.options.stop m.place))
@@ -160,7 +162,7 @@ search-tip is_chosen branches p =
     elim (is_near p.search.xres (with_point p.search p.at_hi)) as
     (λ t. (cond t (c.began false (c.stepped_at p.search.hi is_chosen branches p)) (c.tried_at p)).tip ≡ p.tip) [
       | true ↦ began-tip false (c.stepped_at p.search.hi is_chosen branches p) ∙ chosen-tip is_chosen branches (record p { time = p.search.hi; delta = 0; point = p.at_hi; at_hi = p.point })
-      | false ↦ elim (p.tries_left == 0) as (λ t. (cond t (c.end_with 76 p) p).tip ≡ p.tip) [ true ↦ refl | false ↦ refl ]
+      | false ↦ elim (p.tries_left == 0) as (λ t. (cond t (c.end_with codes.attempt_limit p) p).tip ≡ p.tip) [ true ↦ refl | false ↦ refl ]
     ]
   where
     chosen-tip : (is_chosen : Bool) (branches : List ℕ) (p : RunPlace) → (c.chosen_at is_chosen branches p).tip ≡ p.tip

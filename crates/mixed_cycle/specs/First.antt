@@ -31,12 +31,13 @@ use Rattle.mixed_cycle.specs.Standing.{StandsBy, pending, digital_at, digital_by
 use Rattle.mixed_cycle.specs.Machine.{Sound, HasRoom, moment_of, awaited_of, asked_of}
 use Rattle.mixed_cycle.specs.Running.{Running, running, Kept}
 use Rattle.mixed_cycle.specs.Used.{walk_is}
+use Rattle.run_place.specs.Budgets.{delta_budget, run_budget}
 
 -- the place before the start, with these values
 pub record FirstPlace (o : Options) (x : List ℤ) (frame_len choices : ℕ) (p : RunPlace) : Type 0 where
   pub stage : p.stage ≡ stages.Unstarted
-  pub cycles : p.cycles_left ≡ 200000
-  pub tries : p.tries_left ≡ 200000
+  pub cycles : p.cycles_left ≡ run_budget
+  pub tries : p.tries_left ≡ run_budget
   pub state : (d : Digital) → state_of d p ≡ record {
     digital = d;
     time = 0;
@@ -83,10 +84,10 @@ pub record Parts {D S K : Type 0} (sys : System) (part : S → ℕ) (state : K �
   pub kernel : (state m.kernel).stage ≡ Unstarted
   pub options : m.options ≡ sys.options
   pub allowed : IsAllowed m.options
-  pub deltas : sys.deltas ≡ 1000
+  pub deltas : sys.deltas ≡ delta_budget
   pub choices : sys.choices < 2 ^ 32
-  pub cycles : sys.cycles ≡ 200000
-  pub tries : sys.tries ≡ 200000
+  pub cycles : sys.cycles ≡ run_budget
+  pub tries : sys.tries ≡ run_budget
   pub place : FirstPlace m.options sys.initial sys.frame_len sys.choices m.place
   pub initial : length sys.initial ≡ sys.unknowns
   pub frame : m.frame ≡ sys.frame sys.unstarted
@@ -147,7 +148,7 @@ begun sys part count state m p =
                   stands =
                       subst (λ (s : Stage). StandsBy s sys k m.frame q) (sym f.stage)
                       (record { stage = p.kernel; frame_is = p.frame; cycles = f.cycles ∙ sym p.cycles; tries = f.tries ∙ sym p.tries; state = state_is });
-                  few = subst (λ (s : Stage). m.cycles + (q.cycles_left + pending s) ≤ 200000) (sym f.stage) (omega arith);
+                  few = subst (λ (s : Stage). m.cycles + (q.cycles_left + pending s) ≤ run_budget) (sym f.stage) (omega arith);
                 };
           };
       awaits = p.awaits;

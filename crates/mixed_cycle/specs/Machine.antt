@@ -13,6 +13,7 @@ use Rattle.mixed_cycle.specs.declared.machine.Awaited.{Awaited}
 use Rattle.mixed_cycle.specs.declared.machine.Awaited.TheVariants.{Ready, Looking, Settling, Broken}
 use Rattle.mixed_cycle.specs.declared.machine.Machine.{Machine}
 use Rattle.mixed_cycle.specs.Standing.{Stands, digital_at}
+use Rattle.run_place.specs.Budgets.{delta_budget}
 
 abbrev pub awaited_of : Awaited → Tip → w.Awaited
 awaited_of Ready tip = w.Ready
@@ -55,7 +56,7 @@ pub record Sound {D S K : Type 0} (sys : System) (part : S → ℕ) (state : K �
   pub part_is : part m.stepper ≡ 0
   pub options_are : m.options ≡ sys.options
   pub allowed : IsAllowed sys.options
-  pub deltas : sys.deltas ≡ 1000
+  pub deltas : sys.deltas ≡ delta_budget
   pub choices : sys.choices < 2 ^ 32
   pub room : HasRoom sys m
   pub frame_fits : IsTrue (sys.is_frame m.frame)

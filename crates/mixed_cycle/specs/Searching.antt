@@ -37,6 +37,7 @@ use Rattle.mixed_cycle.specs.Standing.{IsSearch, StandsBy, Stands, pending, digi
 use Rattle.mixed_cycle.specs.Deciding.{digital_going}
 use Rattle.mixed_cycle.specs.Machine.{Sound, moment_of}
 use Rattle.mixed_cycle.specs.Making.{Performs, worked, work_done, work_lost, still_sound}
+use Rattle.run_place.specs.Budgets.{run_budget}
 
 -- where a search is ready, its bounds are far and a try is left
 pub record CanProbe (xres : ℕ) (b : Bounds) (tries : ℕ) : Type 0 where
@@ -159,7 +160,7 @@ probe_done {D = D} {S = S} {K = K} sys part count state m s' bs x span at_hi is_
     let q = state_of d p in
     let b = with_point p.search p.at_hi in
     let search : IsSearch sys k m.frame p.time p.timed p.tip p.search = subst (λ (x : Stage). StandsBy x sys k m.frame p) e s.stands.stands in
-    let few : m.cycles + (p.cycles_left + 0) ≤ 200000 = subst (λ (x : Stage). m.cycles + (p.cycles_left + pending x) ≤ 200000) e s.stands.few in
+    let few : m.cycles + (p.cycles_left + 0) ≤ run_budget = subst (λ (x : Stage). m.cycles + (p.cycles_left + pending x) ≤ run_budget) e s.stands.few in
     let going : digital_at sys k ≡ d = digital_going sys k search.goes.stage in
     let is : m.frame ≡ sys.frame d = search.goes.frame_is in
     let ready : IsReady (next_of sys (held_of d p)) = subst (λ (y : Digital). IsReady (next_of sys (held_of y p))) going r in
@@ -201,7 +202,7 @@ probe_done {D = D} {S = S} {K = K} sys part count state m s' bs x span at_hi is_
       stands =
           subst (λ (x : Stage). StandsBy x sys k m.frame P') (sym e)
           (record { goes = search.goes; distance = xres; tip_before = ordered.tip_before; time_before = ordered.time_before; order = ordered.order; until = ordered.until_after; step = ordered.step });
-      few = subst (λ (x : Stage). m.cycles + (p.cycles_left + pending x) ≤ 200000) (sym e) few;
+      few = subst (λ (x : Stage). m.cycles + (p.cycles_left + pending x) ≤ run_budget) (sym e) few;
     })))
     made
     refl

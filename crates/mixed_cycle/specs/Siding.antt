@@ -44,6 +44,7 @@ use Rattle.mixed_cycle.specs.Landing.{landed_left, landed_events, side_left}
 use Rattle.mixed_cycle.specs.Machine.{Sound, moment_of}
 use Rattle.mixed_cycle.specs.Making.{Performs, worked, work_done, work_lost, still_sound}
 use Rattle.mixed_cycle.specs.Searching.{can_step}
+use Rattle.run_place.specs.Budgets.{run_budget}
 
 by-phase : (there fits : Bool) (n : ℕ) (sys : System) (c : ℕ) (q : RunState) → fits ≡ false → IsReady (h.phase_by (l.phase_step there fits) sys c n q) →
     (there ≡ false) × (1 ≤ n) × (h.phase_by (l.phase_step there fits) sys c n q ≡ h.sided (l.side_at sys q) sys c (n - 1) q)
@@ -94,7 +95,7 @@ pub record SideWay (sys : System) (k : KernelState) (frame : List Val) (cycles :
   pub some : 1 ≤ p.tries_left
   pub side : sys.trial frame p.tip (t - p.tip.t) ≡ l.side_at sys (state_of k.digital p)
   pub comes : next_of sys (held_of (digital_at sys k) p) ≡ h.sided (l.side_at sys (state_of k.digital p)) sys p.cycles_left (p.tries_left - 1) (state_of k.digital p)
-  pub few : cycles + p.cycles_left ≤ 200000
+  pub few : cycles + p.cycles_left ≤ run_budget
 
 latest : (a b t : ℕ) → a < t → 1 ≤ t - b → max a b < t
 latest a b t low far = omega arith
@@ -112,7 +113,7 @@ side_way sys part state m next t g =
     let q = state_of d p in
     let s = g.sound in
     let phase : IsPhase sys k m.frame p.time p.timed p.tip = subst (λ (x : Stage). StandsBy x sys k m.frame p) g.stage s.stands.stands in
-    let few : m.cycles + (p.cycles_left + 0) ≤ 200000 = subst (λ (x : Stage). m.cycles + (p.cycles_left + pending x) ≤ 200000) g.stage s.stands.few in
+    let few : m.cycles + (p.cycles_left + 0) ≤ run_budget = subst (λ (x : Stage). m.cycles + (p.cycles_left + pending x) ≤ run_budget) g.stage s.stands.few in
     let going : digital_at sys k ≡ d = digital_going sys k phase.goes.stage in
     let late : l.ends_in_time sys q ≡ false = subst (λ (y : Digital). l.ends_in_time sys (state_of y p) ≡ false) going g.late in
     let ready : IsReady (next_of sys (held_of d p)) = subst (λ (y : Digital). IsReady (next_of sys (held_of y p))) going g.ready in
@@ -268,7 +269,7 @@ side_refused {D = D} {S = S} {K = K} sys part count state m next t s' x cause sm
           stands =
               subst (λ (y : Stage). StandsBy y sys k m.frame (halved_left (t - p.tip.t) (record p { tries_left = p.tries_left - 1 }))) (sym g.stage)
               (record { goes = way.phase.goes; later = way.phase.later; tip_before = way.phase.tip_before });
-          few = subst (λ (y : Stage). m.cycles + (p.cycles_left + pending y) ≤ 200000) (sym g.stage) (omega arith);
+          few = subst (λ (y : Stage). m.cycles + (p.cycles_left + pending y) ≤ run_budget) (sym g.stage) (omega arith);
         })))
         made
         saying

@@ -39,6 +39,7 @@ use Rattle.mixed_cycle.specs.Machine.{Sound, moment_of}
 use Rattle.mixed_cycle.specs.Making.{Performs, worked, work_done, work_lost, still_sound}
 use Rattle.run_place.specs.Decisions.{chosen_at}
 use Rattle.run_place.specs.Outcomes.{solution_left, unsolvable_left, renewed_at}
+use Rattle.run_place.specs.Budgets.{run_budget}
 
 -- a solution is the next thing where a delta is ready
 by-solution : (needs : Bool) (sys : System) (to_time : Bool) (c n : ℕ) (q : RunState) → IsReady (h.delta_by needs sys to_time c n q) → h.delta_by needs sys to_time c n q ≡ h.solved_by (l.solution sys q) sys to_time c n q
@@ -116,9 +117,9 @@ left-fits sys p to_time true false branches h0 frame x f px pb pf st =
 left-fits sys p to_time false false branches h0 frame x f px pb pf st =
     record { time_most = f.time_most; point_fits = px; tip_fits = f.tip_fits; tip_most = f.tip_most; step = f.step; at_hi_fits = f.at_hi_fits; solved_fits = pf; elements = f.elements; branches_fit = f.branches_fit }
 
-left-delta : (sys : System) (k : KernelState) (p : RunPlace) (to_time is_chosen timed : Bool) (branches : List ℕ) (h0 : ℕ) (frame old : List Val) (x : List ℤ) (cycles : ℕ) → IsDelta sys k frame p.time p.timed p.tip to_time → cycles + (p.cycles_left + 1) ≤ 200000 →
+left-delta : (sys : System) (k : KernelState) (p : RunPlace) (to_time is_chosen timed : Bool) (branches : List ℕ) (h0 : ℕ) (frame old : List Val) (x : List ℤ) (cycles : ℕ) → IsDelta sys k frame p.time p.timed p.tip to_time → cycles + (p.cycles_left + 1) ≤ run_budget →
     StandsBy (stages.InCycle to_time) sys k frame (cond timed (renewed_at h0 (record (chosen_at is_chosen branches (record p { point = x })) { stage = stages.InCycle to_time })) (record (chosen_at is_chosen branches (record p { point = x })) { stage = stages.InCycle to_time; solved = old; is_solved = true }))
-    × (cycles + cycles_ahead (cond timed (renewed_at h0 (record (chosen_at is_chosen branches (record p { point = x })) { stage = stages.InCycle to_time })) (record (chosen_at is_chosen branches (record p { point = x })) { stage = stages.InCycle to_time; solved = old; is_solved = true })) ≤ 200000)
+    × (cycles + cycles_ahead (cond timed (renewed_at h0 (record (chosen_at is_chosen branches (record p { point = x })) { stage = stages.InCycle to_time })) (record (chosen_at is_chosen branches (record p { point = x })) { stage = stages.InCycle to_time; solved = old; is_solved = true })) ≤ run_budget)
 left-delta sys k p to_time true true branches h0 frame old x cycles d few = (record { goes = d.goes; next = d.next; domain = d.domain; tip_before = omega arith }, few)
 left-delta sys k p to_time false true branches h0 frame old x cycles d few = (record { goes = d.goes; next = d.next; domain = d.domain; tip_before = omega arith }, few)
 left-delta sys k p to_time true false branches h0 frame old x cycles d few = (d, few)
@@ -129,7 +130,7 @@ left-stage : (p : RunPlace) (to_time is_chosen timed : Bool) (branches : List �
 left-stage p to_time is_chosen true branches h0 frame x = refl
 left-stage p to_time is_chosen false branches h0 frame x = refl
 
-solution-stands : (sys : System) (k : KernelState) (p : RunPlace) (to_time is_chosen : Bool) (branches : List ℕ) (h0 : ℕ) (frame : List Val) (x : List ℤ) (cycles : ℕ) → IsDelta sys k frame p.time p.timed p.tip to_time → cycles + (p.cycles_left + 1) ≤ 200000 → PlaceFits sys p → length x ≡ sys.unknowns → length branches ≡ sys.choices → length frame ≡ sys.frame_len → HasStep sys.options h0 →
+solution-stands : (sys : System) (k : KernelState) (p : RunPlace) (to_time is_chosen : Bool) (branches : List ℕ) (h0 : ℕ) (frame : List Val) (x : List ℤ) (cycles : ℕ) → IsDelta sys k frame p.time p.timed p.tip to_time → cycles + (p.cycles_left + 1) ≤ run_budget → PlaceFits sys p → length x ≡ sys.unknowns → length branches ≡ sys.choices → length frame ≡ sys.frame_len → HasStep sys.options h0 →
     Stands sys k frame cycles (solution_left to_time h0 frame is_chosen branches (record p { point = x }))
 solution-stands sys k p to_time is_chosen branches h0 frame x cycles delta few f px pb pf st =
     let timed = (chosen_at is_chosen branches (record p { point = x })).timed in
@@ -169,7 +170,7 @@ solve_done {D = D} {S = S} {K = K} sys part count state m s' bs x is_chosen to_t
     let p = m.place in
     let d = k.digital in
     let delta : IsDelta sys k m.frame p.time p.timed p.tip to_time = subst (λ (x : Stage). StandsBy x sys k m.frame p) e s.stands.stands in
-    let few : m.cycles + (p.cycles_left + 1) ≤ 200000 = subst (λ (x : Stage). m.cycles + (p.cycles_left + pending x) ≤ 200000) e s.stands.few in
+    let few : m.cycles + (p.cycles_left + 1) ≤ run_budget = subst (λ (x : Stage). m.cycles + (p.cycles_left + pending x) ≤ run_budget) e s.stands.few in
     let going : digital_at sys k ≡ d = digital_going sys k delta.goes.stage in
     let is : m.frame ≡ sys.frame d = delta.goes.frame_is in
     let o : Result (List ℤ) Cause = solution_from p.timed sys d m.frame p.time p.gathered p.point in
@@ -260,7 +261,7 @@ solve_refused {D = D} {S = S} {K = K} sys part count state m s' bs x cause to_ti
     let d = k.digital in
     let q = state_of d p in
     let delta : IsDelta sys k m.frame p.time p.timed p.tip to_time = subst (λ (x : Stage). StandsBy x sys k m.frame p) e s.stands.stands in
-    let few : m.cycles + (p.cycles_left + 1) ≤ 200000 = subst (λ (x : Stage). m.cycles + (p.cycles_left + pending x) ≤ 200000) e s.stands.few in
+    let few : m.cycles + (p.cycles_left + 1) ≤ run_budget = subst (λ (x : Stage). m.cycles + (p.cycles_left + pending x) ≤ run_budget) e s.stands.few in
     let o : Result (List ℤ) Cause = solution_from p.timed sys d m.frame p.time p.gathered p.point in
     let bad : (o ≡ Err cause) × (x ≡ p.point) = solved_refused o p.point x cause (sym (answer delta.goes.stage)) (value delta.goes.stage) in
     let is : P ≡ unsolvable_left cause p = left ∙ ap (λ (y : List ℤ). unsolvable_left cause (record p { point = y })) bad.1 in

@@ -16,6 +16,7 @@ use Rattle.run_place.specs.declared.place.RunPlace.{RunPlace}
 use Rattle.run_place.specs.declared.place.Stage.{Stage}
 use Rattle.run_place.specs.declared.place.Stage.TheVariants as stages
 use Rattle.run_place.specs.Places.{state_of}
+use Rattle.run_place.specs.Budgets.{run_budget}
 
 abbrev pub digital_by : KernelStage → System → Digital → Digital
 digital_by Unstarted sys d = sys.unstarted
@@ -107,4 +108,4 @@ cycles_ahead p = p.cycles_left + pending p.stage
 pub record Stands (sys : System) (k : KernelState) (frame : List Val) (cycles : ℕ) (p : RunPlace) : Type 0 where
   pub fits : PlaceFits sys p
   pub stands : StandsBy p.stage sys k frame p
-  pub few : cycles + cycles_ahead p ≤ 200000
+  pub few : cycles + cycles_ahead p ≤ run_budget

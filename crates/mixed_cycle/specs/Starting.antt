@@ -32,6 +32,7 @@ use Rattle.mixed_cycle.specs.Standing.{IsFirst, StandsBy, Stands, pending, digit
 use Rattle.mixed_cycle.specs.Deciding.{digital_going}
 use Rattle.mixed_cycle.specs.Machine.{Sound, moment_of}
 use Rattle.mixed_cycle.specs.Making.{Performs, worked, work_done, work_lost, still_sound}
+use Rattle.run_place.specs.Budgets.{run_budget}
 
 first-of : {D S K : Type 0} (sys : System) (part : S → ℕ) (state : K → KernelState) (m : Machine D S K) → Sound sys part state m → m.place.stage ≡ stages.Unstarted → IsFirst sys (state m.kernel) m.frame m.place
 first-of sys part state m s e = subst (λ (x : Stage). StandsBy x sys (state m.kernel) m.frame m.place) e s.stands.stands
@@ -68,7 +69,7 @@ start_done {D = D} {S = S} {K = K} sys part count state m kernel gathered frame 
     let k' = state kernel in
     let p = m.place in
     let first : IsFirst sys k m.frame p = first-of sys part state m s e in
-    let few : m.cycles + (p.cycles_left + 0) ≤ 200000 = subst (λ (x : Stage). m.cycles + (p.cycles_left + pending x) ≤ 200000) e s.stands.few in
+    let few : m.cycles + (p.cycles_left + 0) ≤ run_budget = subst (λ (x : Stage). m.cycles + (p.cycles_left + pending x) ≤ run_budget) e s.stands.few in
     let initial : p.point ≡ sys.initial = ap (λ (q : RunState). q.point) first.state in
     let from : sys.start p.point ≡ l.first_cycle sys = ap (λ (x : List ℤ). sys.start x) initial in
     let ran : (l.first_cycle sys).ran ≡ rans.Done broke = ap (λ (c : CycleOutcome). c.ran) (sym from) ∙ sym call.ran_is in
@@ -127,7 +128,7 @@ start_refused {D = D} {S = S} {K = K} sys part count state m kernel refusal P ou
     let k' = state kernel in
     let p = m.place in
     let first : IsFirst sys k m.frame p = first-of sys part state m s e in
-    let few : m.cycles + (p.cycles_left + 0) ≤ 200000 = subst (λ (x : Stage). m.cycles + (p.cycles_left + pending x) ≤ 200000) e s.stands.few in
+    let few : m.cycles + (p.cycles_left + 0) ≤ run_budget = subst (λ (x : Stage). m.cycles + (p.cycles_left + pending x) ≤ run_budget) e s.stands.few in
     let initial : p.point ≡ sys.initial = ap (λ (q : RunState). q.point) first.state in
     let from : sys.start p.point ≡ l.first_cycle sys = ap (λ (x : List ℤ). sys.start x) initial in
     let ran : (l.first_cycle sys).ran ≡ rans.Refused refusal = ap (λ (c : CycleOutcome). c.ran) (sym from) ∙ sym call.ran_is in

@@ -8,6 +8,7 @@ ghost use Rattle.step_model.specs.System.{attempt as attempt_of};
 ghost use Rattle.lockstep_model.specs.Walk as w;
 ghost use Rattle.lockstep_model.specs.Walk.{first_walk, Fits, reply_of, moved, Begins, EndsAll, Awaits, Spends, OwnsOne, Falls};
 ghost use Rattle.lockstep_model.specs.Works.{events_of};
+ghost use Rattle.run_place.specs.Budgets.{delta_budget, run_budget};
 ghost use Rattle.mixed_cycle.specs.Making.{counted};
 ghost use Rattle.mixed_cycle.specs.Moving.{FitsIn};
 ghost use Rattle.mixed_cycle.specs.Running.{EndsAgain};
@@ -51,10 +52,10 @@ impl<D: Design, S: Stepper<D> + Drop, K: Kernel<D> + Drop> Engine<D, S, K> {
         requires stage { (K.state kernel).stage ≡ Unstarted }
         requires options { options ≡ (D.system 0).options }
         requires allowed { IsAllowed options }
-        requires deltas { (D.system 0).deltas ≡ 1000 }
+        requires deltas { (D.system 0).deltas ≡ delta_budget }
         requires choices { (D.system 0).choices < 2 ^ 32 }
-        requires cycles { (D.system 0).cycles ≡ 200000 }
-        requires tries { (D.system 0).tries ≡ 200000 }
+        requires cycles { (D.system 0).cycles ≡ run_budget }
+        requires tries { (D.system 0).tries ≡ run_budget }
         ensures walk { IfOk result (λ engine. engine.walk ≡ first_walk (D.system 0)) }
         ensures count { IfOk result (λ engine. engine.count ≡ S.count stepper) }
     {

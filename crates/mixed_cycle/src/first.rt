@@ -3,6 +3,7 @@
 ghost use Rattle.std.specs.Prelude.{◌≡◌, ◌<◌, ◌^◌, length, IfOk, IsTrue, true};
 ghost use Rattle.step_data.specs.Options.{IsAllowed};
 ghost use Rattle.step_model.specs.declared.kernel_stage.KernelStage.TheVariants.{Unstarted};
+ghost use Rattle.run_place.specs.Budgets.{delta_budget, run_budget};
 ghost use Rattle.mixed_cycle.specs.First.{FirstPlace, HasLengths, IsSupplied, Begun};
 
 use crate::machine::{Awaited, Machine};
@@ -165,10 +166,10 @@ impl<D: Design, S: Stepper<D>, K: Kernel<D>> Machine<D, S, K> {
         requires stage { (K.state kernel).stage ≡ Unstarted }
         requires options { options ≡ (D.system 0).options }
         requires allowed { IsAllowed options }
-        requires deltas { (D.system 0).deltas ≡ 1000 }
+        requires deltas { (D.system 0).deltas ≡ delta_budget }
         requires choices { (D.system 0).choices < 2 ^ 32 }
-        requires cycles { (D.system 0).cycles ≡ 200000 }
-        requires tries { (D.system 0).tries ≡ 200000 }
+        requires cycles { (D.system 0).cycles ≡ run_budget }
+        requires tries { (D.system 0).tries ≡ run_budget }
         requires supplies { IsSupplied (D.system 0) options supplies }
         ensures { Begun (D.system 0) S.part S.count K.state (S.count stepper) result }
     {
@@ -212,10 +213,10 @@ impl<D: Design, S: Stepper<D> + Drop, K: Kernel<D> + Drop> Machine<D, S, K> {
         requires stage { (K.state kernel).stage ≡ Unstarted }
         requires options { options ≡ (D.system 0).options }
         requires allowed { IsAllowed options }
-        requires deltas { (D.system 0).deltas ≡ 1000 }
+        requires deltas { (D.system 0).deltas ≡ delta_budget }
         requires choices { (D.system 0).choices < 2 ^ 32 }
-        requires cycles { (D.system 0).cycles ≡ 200000 }
-        requires tries { (D.system 0).tries ≡ 200000 }
+        requires cycles { (D.system 0).cycles ≡ run_budget }
+        requires tries { (D.system 0).tries ≡ run_budget }
         ensures { IfOk result (Begun (D.system 0) S.part S.count K.state (S.count stepper)) }
     {
         let supplies = supply(alloc, &options, &stepper, &kernel)?;

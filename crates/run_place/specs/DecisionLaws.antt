@@ -20,6 +20,8 @@ use Rattle.run_place.specs.declared.place.Stage.TheVariants as stages
 use Rattle.run_place.specs.Places.{stage_of, state_of, held_of}
 use Rattle.run_place.specs.Giving.{chosen_of, olds_of}
 use Rattle.run_place.specs.Decisions as c
+use Rattle.run_place.specs.Budgets.{delta_budget}
+use Rattle.message_codes.specs.Codes as codes
 
 less_one : (n : ℕ) → suc n - 1 ≡ n
 less_one n = omega arith
@@ -30,7 +32,7 @@ some-left n = grind (arith, nat_tests)
 began-c : (n : ℕ) (to_time : Bool) (d : Digital) (p : RunPlace) → held_of d (c.began to_time (record p { cycles_left = n })) ≡ h.begin n p.tries_left to_time (state_of d p)
 began-c zero to_time d p = refl
 began-c (suc n) to_time d p =
-    ap (λ b. held_of d (cond b (c.end_with 75 (record p { cycles_left = suc n })) (record p { stage = stages.InDelta to_time; cycles_left = suc n - 1 }))) (some-left n)
+    ap (λ b. held_of d (cond b (c.end_with codes.cycle_limit (record p { cycles_left = suc n })) (record p { stage = stages.InDelta to_time; cycles_left = suc n - 1 }))) (some-left n)
     ∙ ap (λ k. h.at (h.InDelta to_time) k p.tries_left (state_of d p)) (less_one n)
 
 pub began_is : (to_time : Bool) (d : Digital) (p : RunPlace) → held_of d (c.began to_time p) ≡ h.begin p.cycles_left p.tries_left to_time (state_of d p)
@@ -44,16 +46,16 @@ arrived_is sys d p =
       | false ↦ refl
     ]
 
-deeper-is : (sys : System) (to_time : Bool) (d : Digital) (p : RunPlace) → sys.deltas ≡ 1000 → held_of d (c.deeper_at to_time p) ≡ h.deeper_by (nat_le sys.deltas p.delta) p.cycles_left p.tries_left to_time (state_of d p)
+deeper-is : (sys : System) (to_time : Bool) (d : Digital) (p : RunPlace) → sys.deltas ≡ delta_budget → held_of d (c.deeper_at to_time p) ≡ h.deeper_by (nat_le sys.deltas p.delta) p.cycles_left p.tries_left to_time (state_of d p)
 deeper-is sys to_time d p budget =
-    elim (nat_le 1000 p.delta) as
-    (λ b. held_of d (cond b (c.end_with 72 p) (c.began to_time (record p { delta = p.delta + 1 }))) ≡ h.deeper_by b p.cycles_left p.tries_left to_time (state_of d p)) [
+    elim (nat_le delta_budget p.delta) as
+    (λ b. held_of d (cond b (c.end_with codes.delta_limit p) (c.began to_time (record p { delta = p.delta + 1 }))) ≡ h.deeper_by b p.cycles_left p.tries_left to_time (state_of d p)) [
       | true ↦ refl
       | false ↦ began_is to_time d (record p { delta = p.delta + 1 })
     ]
     ∙ ap (λ m. h.deeper_by (nat_le m p.delta) p.cycles_left p.tries_left to_time (state_of d p)) (sym budget)
 
-placed-is : (sys : System) (d : Digital) (p : RunPlace) → sys.deltas ≡ 1000 → held_of d (c.placed_at (sys.next_time d) (sys.frame d) sys.options.stop p) ≡ h.placed sys p.cycles_left p.tries_left (state_of d p)
+placed-is : (sys : System) (d : Digital) (p : RunPlace) → sys.deltas ≡ delta_budget → held_of d (c.placed_at (sys.next_time d) (sys.frame d) sys.options.stop p) ≡ h.placed sys p.cycles_left p.tries_left (state_of d p)
 placed-is sys d p budget =
     let q = state_of d p in
     elim (l.begins_delta sys q) as
@@ -73,7 +75,7 @@ by-stage : (sys : System) (d : Digital) (p : RunPlace) (s : Stage) → p.stage �
 by-stage sys d p s e =
     ap (λ (x : Stage). after (next_by (stage_of x p.search p.at_hi) sys p.cycles_left p.tries_left (state_of d p)) (held_of d p)) e
 
-pub placed_decides : (sys : System) (d : Digital) (p : RunPlace) → sys.deltas ≡ 1000 → p.stage ≡ stages.Placed → held_of d (c.placed_at (sys.next_time d) (sys.frame d) sys.options.stop p) ≡ decided sys (held_of d p)
+pub placed_decides : (sys : System) (d : Digital) (p : RunPlace) → sys.deltas ≡ delta_budget → p.stage ≡ stages.Placed → held_of d (c.placed_at (sys.next_time d) (sys.frame d) sys.options.stop p) ≡ decided sys (held_of d p)
 placed_decides sys d p budget e = placed-is sys d p budget ∙ sym (by-stage sys d p stages.Placed e)
 
 solved-stays : (o : Result (List ℤ) Cause) (sys : System) (to_time : Bool) (n m : ℕ) (q : RunState) (held : Held) → after (h.solved_by o sys to_time n m q) held ≡ held
@@ -104,7 +106,7 @@ sided-stays (Ok s) sys n m q held = accepted-stays (differs s.x (l.thresholds_at
 
 tries-left : (n : ℕ) (d : Digital) (p : RunPlace) → held_of d (c.tried_at (record p { tries_left = suc n })) ≡ held_of d (record p { tries_left = suc n })
 tries-left n d p =
-    ap (λ b. held_of d (cond b (c.end_with 76 (record p { tries_left = suc n })) (record p { tries_left = suc n }))) (some-left n)
+    ap (λ b. held_of d (cond b (c.end_with codes.attempt_limit (record p { tries_left = suc n })) (record p { tries_left = suc n }))) (some-left n)
 
 tried-c : (fits : Bool) (n : ℕ) (sys : System) (d : Digital) (p : RunPlace) →
     held_of d (c.tried_at (record p { tries_left = n })) ≡ after (h.phase_by (l.phase_step false fits) sys p.cycles_left n (state_of d p)) (held_of d (record p { tries_left = n }))

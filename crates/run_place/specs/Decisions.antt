@@ -9,6 +9,7 @@ use Rattle.above_events.specs.Locating.{with_point}
 use Rattle.run_place.specs.declared.place.RunPlace.{RunPlace}
 use Rattle.run_place.specs.declared.place.Stage.TheVariants.{InDelta, InCycle, InPhase, Finished}
 use Rattle.run_place.specs.Places.{solved_of}
+use Rattle.run_place.specs.Budgets.{delta_budget}
 
 abbrev pub end_with : ℕ → RunPlace → RunPlace
 end_with code p = record p { stage = Finished (Refused p.time (record { code = code; detail = None })) }
@@ -32,7 +33,7 @@ arrived_at next p = if stands next p.time then began false p else reached p
 
 abbrev pub deeper_at : Bool → RunPlace → RunPlace
 deeper_at to_time p =
-    if nat_le 1000 p.delta then end_with codes.delta_limit p else began to_time (record p { delta = p.delta + 1 })
+    if nat_le delta_budget p.delta then end_with codes.delta_limit p else began to_time (record p { delta = p.delta + 1 })
 
 abbrev pub placed_by : Bool → ℕ → RunPlace → RunPlace
 placed_by due stop p =

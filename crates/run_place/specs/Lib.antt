@@ -1,3 +1,4 @@
+pub mod Budgets
 pub mod DecisionLaws
 pub mod Outcomes
 pub mod Decisions
