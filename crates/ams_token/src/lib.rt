@@ -16,5 +16,3 @@ pub use token::{Decimal, Integer, Place, Token, TokenKind};
 pub use tokens::Tokens;
 pub use word::{RESERVED_WORDS, Word};
 
-#[cfg(test)]
-mod tests;

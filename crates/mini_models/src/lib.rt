@@ -7,8 +7,6 @@ pub mod kernel;
 pub mod plan;
 pub mod row;
 pub mod stepper;
-#[cfg(test)]
-mod tests;
 
 pub use calls::first_events;
 pub use kernel::Switch;

@@ -5,7 +5,5 @@ mod functions;
 mod numbers;
 mod operators;
 mod partial;
-#[cfg(test)]
-mod tests;
 
 pub use partial::{slope, slopes};

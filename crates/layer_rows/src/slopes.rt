@@ -4,12 +4,12 @@ ghost use Rattle.fix_core.specs.Units.{most_ticks};
 ghost use Rattle.flat_expr.specs.declared.expr.FlatExpr.TheVariants as e;
 ghost use Rattle.flat_expr.specs.declared.expr.Unknown.TheVariants.{Quantity};
 
-use crate::slopes;
 use ams_value::{BinaryOperator, Val, ValueType};
 use design_meaning::EvalFault;
 use expr_eval::Values;
 use fix_core::{Fix, Tick};
 use flat_expr::{FlatExpr, SignalName, Unknown};
+use slope::slopes;
 use std::alloc::{AllocError, Global};
 use std::test::Fail;
 

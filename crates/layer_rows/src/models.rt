@@ -1,6 +1,6 @@
-use crate::{Change, Plan, first_events};
 use ams_value::Val;
 use fix_core::{Fix, Tick};
+use mini_models::{Change, Plan, first_events};
 use std::test::Fail;
 use step_data::{
     Attempt, BreakList, Choices, Element, Event, EventList, Frame, Options, Ran, Text,

@@ -1,8 +1,8 @@
 //! The tokens of two short texts.
 
-use crate::spell_expr;
 use ams_token::{Integer, Mark, Place, TokenKind, Word};
 use ams_tree::{Attribute, BinaryOperator, Expr, Name, Number, NumberValue};
+use expr_spell::spell_expr;
 use sqlite_items::{Boxed, Items};
 use std::alloc::{AllocError, Global};
 use std::test::Fail;

@@ -1,6 +1,6 @@
 //! One value of each table, and a table of names.
 
-use crate::{Mark, Names, TimeUnit, Word};
+use ams_token::{Mark, Names, TimeUnit, Word};
 use std::test::Fail;
 
 #[test]
