@@ -15,4 +15,3 @@ pub use time_unit::{TIME_UNITS, TimeUnit};
 pub use token::{Decimal, Integer, Place, Token, TokenKind};
 pub use tokens::Tokens;
 pub use word::{RESERVED_WORDS, Word};
-

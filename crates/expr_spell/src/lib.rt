@@ -6,4 +6,3 @@ mod spell;
 
 pub use kinds::literal_kind;
 pub use spell::{put_expr, put_mark, put_name, spell_expr};
-
