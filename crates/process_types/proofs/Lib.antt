@@ -1,0 +1,4 @@
+pub mod Allowed
+pub mod Typing
+pub mod Ways
+pub mod Staying
