@@ -4,9 +4,10 @@ ghost use Rattle.fix_core.specs.Passes.{and_then};
 ghost use Rattle.design_meaning.specs.Value.{number_of, value_of, slopes_of};
 ghost use Rattle.expr_eval.specs.Condition.{CanEvaluate};
 ghost use Rattle.tape_code.specs.Code.{code_of};
-ghost use Rattle.eval_tape.specs.Tape.{tape_of};
+ghost use Rattle.eval_tape.specs.Tape.{constants_of, tape_of};
 
 use crate::run::{run_slopes, run_value};
+use constant_slopes::constant_slope;
 use design_meaning::EvalFault;
 use expr_eval::{Values, units, value};
 use fix_core::Fix;
@@ -44,11 +45,27 @@ impl Work {
     }
 }
 
-/// The instructions of an expression, and the unknowns by which its slopes are asked.
+/// The slopes by these unknowns that are constant.
+fn constant_slopes(
+    alloc: Global,
+    expr: &FlatExpr,
+    unknowns: &[Unknown],
+) -> Result<Vec<Option<Fix>>, AllocError>
+    ensures { IfOk result (λ constants. constants.items ≡ constants_of expr.now unknowns.now) }
+{
+    let mut constants = Vec::new(alloc);
+    for i in 0..unknowns.len() {
+        constants.push(constant_slope(expr, unknowns[i]))?;
+    }
+    Ok(constants)
+}
+
+/// The instructions of an expression, the unknowns by which its slopes are asked, and the slopes that are constant.
 #[derive(Drop)]
 pub struct Tape {
     code: Vec<Instruction>,
     unknowns: Vec<Unknown>,
+    constants: Vec<Option<Fix>>,
 }
 
 impl Model for Tape {
@@ -56,7 +73,7 @@ impl Model for Tape {
 
     ghost Value = { Content };
 
-    ghost view = { λ tape. record { code = tape.code.items; unknowns = tape.unknowns.items } };
+    ghost view = { λ tape. record { code = tape.code.items; unknowns = tape.unknowns.items; constants = tape.constants.items } };
 }
 
 impl Tape {
@@ -66,8 +83,13 @@ impl Tape {
     {
         let mut code = Vec::new(alloc);
         compile(expr, &mut code)?;
+        let constants = constant_slopes(alloc, expr, unknowns)?;
         let unknowns = Vec::from_slice(alloc, unknowns)?;
-        Ok(Tape { code, unknowns })
+        Ok(Tape {
+            code,
+            unknowns,
+            constants,
+        })
     }
 
     /// How many instructions it has.
@@ -107,7 +129,7 @@ impl Tape {
         work: &mut Work,
         out: &mut [Fix],
     ) -> Result<Fix, EvalFault>
-        requires tape { self.now.code ≡ code_of expr.now }
+        requires tape { self.now ≡ tape_of expr.now self.now.unknowns }
         requires evaluable { CanEvaluate (V.readings values.now) expr.now }
         requires room { length self.now.code ≤ work.old }
         requires places { length out.old ≡ length self.now.unknowns }
@@ -116,9 +138,11 @@ impl Tape {
         ensures room { work.new ≡ work.old }
     {
         let unknowns = self.unknowns.as_slice();
+        let constants = self.constants.as_slice();
+        let code = self.code.as_slice();
         let numbers = work.numbers.as_mut_slice();
         let room = work.slopes.as_mut_slice();
-        match run_slopes(unknowns, self.code.as_slice(), values, numbers, room, out) {
+        match run_slopes(unknowns, constants, code, values, numbers, room, out) {
             Ok(number) => Ok(number),
             Err(_) => slopes(expr, unknowns, values, out),
         }
