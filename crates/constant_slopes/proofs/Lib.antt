@@ -1,0 +1,4 @@
+pub mod Binary
+pub mod Holds
+pub mod Whole
+pub mod Zeros

@@ -1,0 +1,4 @@
+pub mod Filled
+pub mod Powers
+pub mod Ranged
+pub mod Results

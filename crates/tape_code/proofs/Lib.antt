@@ -1,0 +1,5 @@
+pub mod Appended
+pub mod Nodes
+pub mod Sound
+pub mod Values
+pub mod Whole
