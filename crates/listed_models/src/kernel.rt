@@ -67,13 +67,7 @@ fn event_of(alloc: Global, t: Tick, n: u32, given: Given) -> Result<Event, Alloc
 }
 
 /// Adds what is given at a time and a delta.
-fn give(
-    alloc: Global,
-    t: Tick,
-    n: u32,
-    given: Given,
-    out: &mut EventList,
-) -> Result<(), AllocError>
+fn give(alloc: Global, t: Tick, n: u32, given: Given, out: &mut EventList) -> Result<(), AllocError>
     ensures ok { OnOk result (out.new ≡ out.old ++ event_of t n given ∷ []) }
     ensures err { OnErr result (out.new ≡ out.old) }
 {

@@ -25,8 +25,8 @@ use Rattle.process_laws.specs.Resumed.{Surroundings, outermost, inside, body_in}
 use Rattle.statement_values.specs.LoopRanges.{IsOnWay, further_value}
 use Rattle.process_place.specs.ProcessPlace.{at}
 use Rattle.process_place.specs.Moves.{Coming, begins_at, turns_to, starts_again, begun_or, past_end, coming_at}
-use Rattle.process_types.specs.Allowed.{LeadsOn}
-use Rattle.process_types.proofs.Ways.{parameter_there}
+use Rattle.process_ready.specs.Allowed.{LeadsOn}
+use Rattle.process_ready.proofs.Ways.{parameter_there}
 use Rattle.process_stack.specs.declared.stack.Frame.{Frame}
 use Rattle.process_stack.specs.Stacks.{Stacked, round_of, place_by, place_of, IsInside}
 

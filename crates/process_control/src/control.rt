@@ -4,7 +4,7 @@ ghost use Rattle.process_laws.specs.Resumed.{AreOf};
 ghost use Rattle.flat_expr.specs.declared.statement.Statement.TheOpen.{Statement-F};
 ghost use Rattle.process_place.specs.Moves.{moved};
 ghost use Rattle.process_stack.specs.Stacks.{round_of};
-ghost use Rattle.process_types.specs.Allowed.{CanPerform};
+ghost use Rattle.process_ready.specs.Allowed.{CanPerform};
 ghost use Rattle.process_control.specs.Performing.{Performs, IsBegun, HasLoop, IsEntered};
 
 use fix_core::Tick;

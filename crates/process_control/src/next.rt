@@ -5,7 +5,7 @@ ghost use Rattle.flat_expr.specs.declared.statement.Statement.{out-Statement};
 ghost use Rattle.process_laws.specs.Resumed.{Surroundings, AreOf};
 ghost use Rattle.process_place.specs.Moves.{Coming, past_end, coming_at, coming};
 ghost use Rattle.process_stack.specs.Stacks.{round_of, place_of};
-ghost use Rattle.process_types.specs.Allowed.{CanPerform, EachCan, LeadsOn, LeadRound, LeadAt};
+ghost use Rattle.process_ready.specs.Allowed.{CanPerform, EachCan, LeadsOn, LeadRound, LeadAt};
 ghost use Rattle.process_control.specs.Coming.{first_of, past_by, coming_by, IsSmall, IsVariable};
 
 use ams_value::Val;

@@ -59,7 +59,9 @@ pub statement_there : (list : List Statement) (k : ℕ) (s : Statement) → k < 
 statement_there list k s h is = sym (slice_get_read list (length list) k s refl h is)
 
 pub ruleset branches = (branch_there, branch_last)
+
 pub ruleset alternatives = (alternative_there, alternative_none)
+
 pub ruleset statements_there = (statement_there, slice_get_past)
 
 -- the list inside a statement that is found
@@ -137,9 +139,10 @@ front_and_last : (frames : List Frame) (f : Frame) → slice_get frames (length 
 front_and_last frames f e =
     let there : length frames - 1 < length frames = slice_get_within frames (length frames - 1) f e in
     let one : length frames - 1 + 1 ≡ length frames = omega (arith, there) in
-    let reflexive : length frames ≤ length frames = omega arith in
-    (omega (arith, there),
-    sym (take_all (length frames) frames reflexive) ∙ (ap (λ n. take n frames) (sym one) ∙ next_front frames (length frames - 1) f there ∙ ap (λ y. take (length frames - 1) frames ++ y ∷ []) (get_or_from_slice_get frames (length frames - 1) f f e)))
+    let reflexive : length frames ≤ length frames = omega arith in (
+      omega (arith, there),
+      sym (take_all (length frames) frames reflexive) ∙ (ap (λ n. take n frames) (sym one) ∙ next_front frames (length frames - 1) f there ∙ ap (λ y. take (length frames - 1) frames ++ y ∷ []) (get_or_from_slice_get frames (length frames - 1) f f e)),
+    )
 
 round_last : (top : List Statement) (frames : List Frame) (f : Frame) → slice_get frames (length frames - 1) ≡ Some f → round_of top frames ≡ within top (round_of top (take (length frames - 1) frames)) f
 round_last top frames f e = ap (round_of top) (front_and_last frames f e).1 ∙ round_push top outermost (take (length frames - 1) frames) f

@@ -28,8 +28,8 @@ use Rattle.process_laws.specs.Resumed.{Surroundings, body_in, AreOf}
 use Rattle.process_laws.proofs.Places.{way, parameters_round, leads_on}
 use Rattle.statement_values.specs.Limits.{CanEvaluateLimit}
 use Rattle.statement_values.specs.Parts.{CanEvaluateElement}
-use Rattle.process_types.specs.Allowed.{CanPerform, EachCan}
-use Rattle.process_types.specs.Ready.{HasOwn, IsReady}
+use Rattle.process_ready.specs.Allowed.{CanPerform, EachCan}
+use Rattle.process_ready.specs.Ready.{HasOwn, IsReady}
 
 pub leads_to : (top : List Statement) (c : Surroundings) (k : ℕ) (layer : Layer) → AreOf top c → layer_at k (body_in top c) ≡ Some layer →
     LeadsTo (way c ++ []) (parameters_round c ++ []) k layer top

@@ -2,7 +2,7 @@
 //! stay on the way to their last values. The function here is a law, which is proved and does nothing when it runs.
 #![tactic(auto)]
 
-ghost use Rattle.process_types.specs.Ready.{StaysReady};
+ghost use Rattle.process_ready.specs.Ready.{StaysReady};
 
 /// From a place in the text of a process whose variables have values of their types, each next thing that counts and each
 /// statement leads to such a place again, and each statement can be performed.

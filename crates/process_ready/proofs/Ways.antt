@@ -22,7 +22,7 @@ use Rattle.process_laws.proofs.Places.{parameters_round}
 use Rattle.process_laws.proofs.HeldMoves.{get_set_other, or_apart}
 use Rattle.statement_values.specs.LoopRanges.{IsOnWay}
 use Rattle.process_place.specs.Moves.{behind_loop_at, end_of_turn_at}
-use Rattle.process_types.specs.Allowed.{IsInteger, LeadsOn, LeadRound, LeadAt}
+use Rattle.process_ready.specs.Allowed.{IsInteger, LeadsOn, LeadRound, LeadAt}
 
 none_of_both : (t : ℕ → Bool) (xs ys : List ℕ) → list_any t (xs ++ ys) ≡ false → (list_any t xs ≡ false) × (list_any t ys ≡ false)
 none_of_both t [] ys h = (refl, h)

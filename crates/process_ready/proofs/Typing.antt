@@ -10,7 +10,7 @@ use Rattle.flat_design.specs.declared.objects.Process.{Process}
 use Rattle.design_meaning.specs.Typed.{IsOfType}
 use Rattle.cycle_meaning.specs.World.{Context, Local}
 use Rattle.design_rules.specs.Types.{sizes_of}
-use Rattle.process_types.specs.Ready.{IsReady}
+use Rattle.process_ready.specs.Ready.{IsReady}
 
 types_stay : (vs : List Val) (xs : List Variable) (i : ℕ) (x : Variable) (v : Val) → map type_of vs ≡ map (λ (y : Variable). y.kind) xs → slice_get xs i ≡ Some x → type_of v ≡ x.kind →
     map type_of (slice_set vs i v) ≡ map (λ (y : Variable). y.kind) xs

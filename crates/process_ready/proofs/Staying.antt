@@ -48,11 +48,11 @@ use Rattle.statement_lists.specs.Branches.{branch_number}
 use Rattle.statement_lists.specs.Alternatives.{alternative_number}
 use Rattle.process_place.specs.ProcessPlace.{ProcessPlace, at, turning, IsIn}
 use Rattle.process_place.specs.Moves.{Coming, begins_at, turns_to, starts_again, by_truth, past_end, begun_or, coming_at, first_turned, coming, Moved, goes_to, waits_at, is_refused, or_refused, chosen_at, ranged_at, reported_at, asserted_at, behind_loop_at, end_of_turn_at, moved}
-use Rattle.process_types.specs.Allowed.{IsInteger, LeadRound, MayBegin, LeadAt}
-use Rattle.process_types.specs.Ready.{HasOwn, IsReady, GoesReady, StaysReady}
-use Rattle.process_types.proofs.Allowed.{allowed_at, own_at, safe_at, each_can, as_many}
-use Rattle.process_types.proofs.Typing.{ready_with}
-use Rattle.process_types.proofs.Ways.{lead_other, alone, lead_behind, lead_end, parameter_there, further_way, further_integer, in_range_integer, integer_in_range}
+use Rattle.process_ready.specs.Allowed.{IsInteger, LeadRound, MayBegin, LeadAt}
+use Rattle.process_ready.specs.Ready.{HasOwn, IsReady, GoesReady, StaysReady}
+use Rattle.process_ready.proofs.Allowed.{allowed_at, own_at, safe_at, each_can, as_many}
+use Rattle.process_ready.proofs.Typing.{ready_with}
+use Rattle.process_ready.proofs.Ways.{lead_other, alone, lead_behind, lead_end, parameter_there, further_way, further_integer, in_range_integer, integer_in_range}
 
 -- ---- values
 

@@ -13,7 +13,7 @@ use Rattle.design_rules.specs.Design.{IsProcess}
 use Rattle.process_laws.specs.Resumed.{Surroundings, body_in, AreOf}
 use Rattle.process_place.specs.ProcessPlace.{ProcessPlace, IsIn}
 use Rattle.process_place.specs.Moves.{begins_at, turns_to, coming, goes_to, waits_at, moved}
-use Rattle.process_types.specs.Allowed.{EachCan, LeadRound, LeadAt}
+use Rattle.process_ready.specs.Allowed.{EachCan, LeadRound, LeadAt}
 
 -- the parameter of a loop is none of those of the loops round it
 abbrev pub HasOwn : List ℕ → Layer → Type 0
