@@ -1,4 +1,1 @@
-pub mod Entries
-pub mod Row
 pub mod System
-pub mod Passes

@@ -1,11 +1,10 @@
 //! Linear systems of fixed-point numbers that keep of each row its non-zero entries alone.
 #![tactic(auto)]
 
-mod entry;
-mod passes;
-mod row;
+mod elimination;
 mod rows;
 #[cfg(test)]
 mod tests;
 
+pub use elimination::choose_pivot;
 pub use rows::SparseRows;

@@ -1,8 +1,14 @@
 //! A system of rows that keep their non-zero entries.
-ghost use Rattle.std.specs.Prelude.{◌≡◌, ◌+◌, ◌<◌, ◌≤◌, [], length, pos, map, replicate, slice_index_or, slice_set, IfOk};
+ghost use Rattle.std.specs.Prelude.{◌≡◌, ◌+◌, ◌<◌, ◌≤◌, [], length, pos, map, replicate, slice_index_or, slice_set, IfOk, OnErr};
+ghost use Rattle.std.specs.List.{All};
+ghost use Rattle.fix_core.specs.Passes.{answer};
+ghost use Rattle.lin_solve.specs.Elimination.{solution_of};
 
-use crate::row::SparseRow;
+use crate::elimination::solve_rows;
+use ams_point::Point;
 use fix_core::Fix;
+use lin_solve::LinFault;
+use sparse_row::SparseRow;
 use std::alloc::{AllocError, Global};
 use std::marker::Model;
 
@@ -77,5 +83,29 @@ impl SparseRows {
         ensures { self.new ≡ slice_set self.old row (replicate (length self.old + 1) (pos 0)) }
     {
         self.rows[row].clear();
+    }
+
+    /// The rows.
+    pub fn rows(&self) -> &[SparseRow]
+        ensures rows { result.now ≡ self.now }
+        ensures widths { All (λ row. length row ≡ length self.now + 1) self.now }
+    {
+        self.rows.as_slice()
+    }
+
+    /// Solves the system. The rows are used up.
+    pub fn solve(&mut self, out: &mut Point) -> Result<(), LinFault>
+        requires { length out.old ≡ length self.old }
+        ensures answer { solution_of self.old ≡ answer result out.new }
+        ensures kept { OnErr result (out.new ≡ out.old) }
+        ensures count { length self.new ≡ length self.old }
+    {
+        solve_rows(
+            self.rows.as_mut_slice(),
+            self.unknowns.as_mut_slice(),
+            &mut self.spare,
+        )?;
+        out.copy_from_slice(self.unknowns.as_slice());
+        Ok(())
     }
 }

@@ -1,0 +1,6 @@
+pub mod Turning
+pub mod Zipping
+pub mod Columns
+pub mod Passing
+pub mod Fronts
+pub mod Rooms

@@ -1,0 +1,11 @@
+//! The elimination of the last coefficients, kept for systems that have the same ones.
+#![tactic(auto)]
+
+mod column;
+mod elimination;
+mod kept;
+mod matrix;
+mod passes;
+mod turns;
+
+pub use kept::KeptElimination;

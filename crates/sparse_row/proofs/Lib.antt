@@ -1,0 +1,9 @@
+pub mod Sparse
+pub mod Lookup
+pub mod Edits
+pub mod Shapes
+pub mod Merging
+pub mod Raising
+pub mod Fronts
+pub mod Multiples
+pub mod Whole

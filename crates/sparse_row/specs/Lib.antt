@@ -1,0 +1,4 @@
+pub mod Entries
+pub mod Row
+pub mod Passes
+pub mod Reads

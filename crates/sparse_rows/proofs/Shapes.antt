@@ -1,5 +1,0 @@
--- Rows as the code has them.
-use Rattle.sparse_rows.proofs.Sparse.{length-filled, filled_none, sparse_none}
-use Rattle.sparse_rows.proofs.Lookup.{filled_value}
-
-pub ruleset rows = (length-filled, filled_none, sparse_none, filled_value)

@@ -1,5 +1,0 @@
-use Rattle.std.proofs.Common.{◌-◌}
-use Rattle.sparse_rows.proofs.passes.+merge.Given as goal
-
-abbrev pub decreases-merge : goal.decreases-merge
-decreases-merge l = l.width - l.from
