@@ -1,8 +1,8 @@
 -- Answers that are written one after the other, from a place on.
 use Rattle.std.proofs.Common.{◌≡◌, ◌<◌, ◌≤◌, ◌+◌, ℕ, suc, ℤ, pos, List, [], ◌∷◌, ◌++◌, length, take, drop, set, map, get_or, Result, Ok, Err, arith, refl, sym, ap, ◌∙◌, append_assoc}
-use Rattle.std.proofs.lemmas.List.{take_more_set, append-nil, set-set, get_or-set_same}
+use Rattle.std.proofs.lemmas.List.{take_more_set, append-nil, set-set, get_or-set_same, drop_all}
 use Rattle.fix_core.specs.Passes.{and_then, each, joined, answer}
-use Rattle.fix_core.specs.Laws.{joined-joined, joined_none}
+use Rattle.fix_core.specs.Laws.{joined-joined, joined_none, at_place}
 
 -- one more
 pub joined_more : {A B E : Type 0} (f : A → Result B E) (x : A) (more : List A) (out : List B) (i : ℕ) (y : B) → i < length out → f x ≡ Ok y
@@ -87,3 +87,42 @@ row_stopped {B = B} {E = E} f x more rows done k e h = at (f x) refl h
     at : (m : Result B E) → f x ≡ m → and_then (λ own. Ok (set rows k own)) m ≡ Err e → joined done (each f (x ∷ more)) ≡ Err e
     at (Ok own) g q = absurd (cc)
     at (Err d) g q = let is : f x ≡ Err e = cc in joined_stops f x more done e is
+
+-- ---- loops over a list whose elements stand for rows
+
+next_place : (a b : ℕ) → (a + b) + 1 ≡ a + (b + 1)
+next_place a b = omega arith
+
+pub loop_more : {X A B E : Type 0} (f : A → Result B E) (g : X → A) (xs : List X) (out : List B) (first i : ℕ) (x : X) (y : B) → i < length xs → x ≡ get_or xs i x → first + length xs ≤ length out → f (g x) ≡ Ok y
+    → joined (take (first + i) out) (each f (map g (drop i xs))) ≡ joined (take (first + (i + 1)) (set out (first + i) y)) (each f (map g (drop (i + 1) xs)))
+loop_more f g xs out first i x y lt is room e =
+    let within : first + i < length out = omega (arith, lt, room) in
+    ap (λ ps. joined (take (first + i) out) (each f (map g ps))) (at_place xs i x lt is)
+    ∙ joined_more f (g x) (map g (drop (i + 1) xs)) out (first + i) y within e
+    ∙ ap (λ k. joined (take k (set out (first + i) y)) (each f (map g (drop (i + 1) xs)))) (next_place first i)
+
+pub loop_stops : {X A B E : Type 0} (f : A → Result B E) (g : X → A) (xs : List X) (done : List B) (i : ℕ) (x : X) (e : E) → i < length xs → x ≡ get_or xs i x → f (g x) ≡ Err e
+    → joined done (each f (map g (drop i xs))) ≡ Err e
+loop_stops f g xs done i x e lt is h =
+    ap (λ ps. joined done (each f (map g ps))) (at_place xs i x lt is) ∙ joined_stops f (g x) (map g (drop (i + 1) xs)) done e h
+
+pub rows_more : {X A B E : Type 0} (f : A → Result B E) (g : X → A) (xs : List X) (rows after : List B) (first i : ℕ) (x : X) → i < length xs → x ≡ get_or xs i x → first + length xs ≤ length rows
+    → and_then (λ own. Ok (set rows (first + i) own)) (f (g x)) ≡ Ok after
+    → joined (take (first + i) rows) (each f (map g (drop i xs))) ≡ joined (take (first + (i + 1)) after) (each f (map g (drop (i + 1) xs)))
+rows_more f g xs rows after first i x lt is room e =
+    let within : first + i < length rows = omega (arith, lt, room) in
+    ap (λ ps. joined (take (first + i) rows) (each f (map g ps))) (at_place xs i x lt is)
+    ∙ row_told f (g x) (map g (drop (i + 1) xs)) rows after (first + i) within e
+    ∙ ap (λ k. joined (take k after) (each f (map g (drop (i + 1) xs)))) (next_place first i)
+
+pub rows_stop : {X A B E : Type 0} (f : A → Result B E) (g : X → A) (xs : List X) (rows done : List B) (k i : ℕ) (x : X) (e : E) → i < length xs → x ≡ get_or xs i x
+    → and_then (λ own. Ok (set rows k own)) (f (g x)) ≡ Err e → joined done (each f (map g (drop i xs))) ≡ Err e
+rows_stop f g xs rows done k i x e lt is h =
+    ap (λ ps. joined done (each f (map g ps))) (at_place xs i x lt is) ∙ row_stopped f (g x) (map g (drop (i + 1) xs)) rows done k e h
+
+pub loop_end : {X A B E : Type 0} (f : A → Result B E) (g : X → A) (xs : List X) (out : List B) (first i : ℕ) → length xs ≤ i → i ≤ length xs
+    → joined (take (first + i) out) (each f (map g (drop i xs))) ≡ Ok (take (first + length xs) out)
+loop_end f g xs out first i low high =
+    let last : i ≡ length xs = omega (arith, low, high) in
+    ap (λ ps. joined (take (first + i) out) (each f (map g ps))) (drop_all i xs low)
+    ∙ joined_end f (take (first + i) out) ∙ ap (λ k. Ok (take (first + k) out)) last
