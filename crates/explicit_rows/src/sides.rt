@@ -1,0 +1,50 @@
+//! The residual of an equation, and its slopes.
+ghost use Rattle.std.specs.Prelude.{◌≡◌};
+ghost use Rattle.design_meaning.specs.Value.{number_of, value_of};
+ghost use Rattle.design_meaning.specs.Equations.{row_of, residual_of, row_slope};
+ghost use Rattle.expr_eval.specs.Condition.{CanEvaluate};
+ghost use Rattle.equation_values.specs.Evaluable.{CanEvaluatePair};
+ghost use Rattle.equation_values.specs.Reading.{readings_in};
+
+use design_meaning::EvalFault;
+use equation_values::EquationValues;
+use expr_eval::{number, units, value};
+use fix_core::Fix;
+use flat_design::Pair;
+use flat_expr::{FlatExpr, Unknown};
+use slope::slope;
+
+/// The number that a side is.
+fn side(expr: &FlatExpr, values: &EquationValues<'_>) -> Result<Fix, EvalFault>
+    requires { CanEvaluate (readings_in values.now) expr.now }
+    ensures { result ≡ number_of (value_of expr.now (readings_in values.now)) }
+{
+    match value(expr, values) {
+        Ok(value) => Ok(units(value)),
+        Err(fault) => Err(fault),
+    }
+}
+
+/// The left side less the right one.
+pub fn pair_residual(pair: &Pair, values: &EquationValues<'_>) -> Result<Fix, EvalFault>
+    requires { CanEvaluatePair (readings_in values.now) pair.now }
+    ensures { result ≡ residual_of (row_of pair.now) (readings_in values.now) }
+{
+    let left = side(&pair.left, values)?;
+    let right = side(&pair.right, values)?;
+    number(left.sub(right))
+}
+
+/// The slope of the left side less that of the right one.
+pub fn pair_slope(
+    pair: &Pair,
+    unknown: Unknown,
+    values: &EquationValues<'_>,
+) -> Result<Fix, EvalFault>
+    requires { CanEvaluatePair (readings_in values.now) pair.now }
+    ensures { result ≡ row_slope (row_of pair.now) (readings_in values.now) unknown }
+{
+    let left = slope(&pair.left, unknown, values)?;
+    let right = slope(&pair.right, unknown, values)?;
+    number(left.sub(right))
+}
