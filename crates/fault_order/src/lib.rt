@@ -1,0 +1,6 @@
+//! The first of the broken rules that a stage answers.
+#![tactic(auto)]
+
+mod first;
+
+pub use first::{Stage, code_of, first_fault};
