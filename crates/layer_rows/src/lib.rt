@@ -8,6 +8,8 @@ mod models;
 #[cfg(test)]
 mod slopes;
 #[cfg(test)]
+mod sparse;
+#[cfg(test)]
 mod spelled;
 #[cfg(test)]
 mod tokens;

@@ -3,8 +3,6 @@
 
 mod elimination;
 mod rows;
-#[cfg(test)]
-mod tests;
 
 pub use elimination::choose_pivot;
 pub use rows::SparseRows;

@@ -1,7 +1,7 @@
 //! Entries that are written and read.
 
-use crate::SparseRows;
 use fix_core::Fix;
+use sparse_rows::SparseRows;
 use std::test::Fail;
 
 fn whole(n: i32) -> Fix {
