@@ -1,3 +1,4 @@
+pub mod Asking
 pub mod Attempting
 pub mod Choosing
 pub mod Cycling

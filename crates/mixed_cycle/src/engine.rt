@@ -9,6 +9,7 @@ ghost use Rattle.lockstep_model.specs.Walk as w;
 ghost use Rattle.lockstep_model.specs.Walk.{first_walk, Fits, reply_of, moved, Begins, EndsAll, Awaits, Spends, OwnsOne, Falls};
 ghost use Rattle.lockstep_model.specs.Works.{events_of};
 ghost use Rattle.run_place.specs.Budgets.{delta_budget, run_budget};
+ghost use Rattle.mixed_cycle.specs.Asking.{AsksFrom};
 ghost use Rattle.mixed_cycle.specs.Making.{counted};
 ghost use Rattle.mixed_cycle.specs.Moving.{FitsIn};
 ghost use Rattle.mixed_cycle.specs.Running.{EndsAgain};
@@ -111,9 +112,10 @@ impl<D: Design, S: Stepper<D>, K: Kernel<D>> Engine<D, S, K> {
         }
     }
 
-    /// The frame that an ask names.
+    /// The frame that an ask names. Where no attempt waits to be consumed, attempts may be made from the tip under it.
     pub fn frame(&self) -> &Frame
-        ensures { result.now ≡ self.now.walk.frame }
+        ensures value { result.now ≡ self.now.walk.frame }
+        ensures from { AsksFrom self.now.walk.awaited (D.system 0) self.now.walk.frame self.now.walk.tip }
     {
         &self.machine.frame
     }

@@ -1,0 +1,6 @@
+//! Replies to what an engine asks.
+#![tactic(auto)]
+
+pub mod reply;
+
+pub use reply::Reply;
