@@ -4,7 +4,7 @@ ghost use Rattle.flat_expr.specs.declared.statement.Statement.TheOpen.{Statement
 ghost use Rattle.cycle_meaning.specs.Statements.{signal_assignment, variable_assignment};
 ghost use Rattle.process_place.specs.ProcessPlace.{ProcessPlace};
 ghost use Rattle.process_place.specs.Moves.{goes_to, or_refused};
-ghost use Rattle.process_types.specs.Allowed.{CanPerform};
+ghost use Rattle.process_ready.specs.Allowed.{CanPerform};
 ghost use Rattle.process_effects.specs.Effects.{Leads};
 
 use crate::effects::Effects;

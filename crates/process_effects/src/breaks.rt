@@ -2,7 +2,7 @@
 ghost use Rattle.std.specs.Prelude.{◌≡◌};
 ghost use Rattle.flat_expr.specs.declared.statement.Statement.TheOpen.{Statement-F};
 ghost use Rattle.process_place.specs.Moves.{goes_to, or_refused};
-ghost use Rattle.process_types.specs.Allowed.{CanPerform};
+ghost use Rattle.process_ready.specs.Allowed.{CanPerform};
 ghost use Rattle.process_effects.specs.Effects.{Leads, break_where};
 
 use crate::effects::Effects;

@@ -3,7 +3,7 @@ ghost use Rattle.std.specs.Prelude.{◌≡◌, ◌<◌, ◌≤◌, length, OnOk,
 ghost use Rattle.std.specs.List.{All, slice_get};
 ghost use Rattle.waveform.specs.Projected.{IsRising};
 ghost use Rattle.cycle_meaning.specs.Statements.{constraint_of, with_report, with_elements};
-ghost use Rattle.process_types.specs.Allowed.{IsDriven};
+ghost use Rattle.process_ready.specs.Allowed.{IsDriven};
 ghost use Rattle.process_effects.specs.Effects.{with_variable, with_waveform};
 
 use ams_value::Val;

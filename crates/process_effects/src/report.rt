@@ -5,7 +5,7 @@ ghost use Rattle.flat_expr.specs.declared.statement.Statement.TheOpen.{Statement
 ghost use Rattle.cycle_meaning.specs.World.{evaluated};
 ghost use Rattle.cycle_meaning.specs.Statements.{number_of_severity};
 ghost use Rattle.process_place.specs.Moves.{goes_to, or_refused, reported_at, asserted_at};
-ghost use Rattle.process_types.specs.Allowed.{CanPerform};
+ghost use Rattle.process_ready.specs.Allowed.{CanPerform};
 ghost use Rattle.process_effects.specs.Effects.{Leads, is_failure};
 
 use crate::effects::Effects;
