@@ -7,7 +7,7 @@ ghost use Rattle.equation_values.specs.Evaluable.{CanEvaluateIfArm, CanEvaluateS
 ghost use Rattle.fix_core.specs.Passes.{and_then};
 ghost use Rattle.design_meaning.specs.Value.{value_of};
 ghost use Rattle.expr_eval.specs.Condition.{CanEvaluate};
-ghost use Rattle.design_rules.specs.Rows.{branch_count};
+ghost use Rattle.design_rules.specs.Branches.{branch_count, branch_limit};
 ghost use Rattle.branch_choice.specs.Chosen.{names, has_others, truth_of};
 ghost use Rattle.equation_values.specs.Reading.{readings_in};
 
@@ -98,7 +98,7 @@ fn case_branch(arms: &[CaseArm], value: &Val) -> usize
 /// The branch of a simultaneous if.
 fn selected_if(arms: &[IfArm], values: &EquationValues<'_>) -> Result<u32, EvalFault>
     requires evaluable { All (CanEvaluateIfArm (readings_in values.now)) arms.now }
-    requires numbers { length arms.now < 4294967296 }
+    requires numbers { length arms.now < branch_limit }
     ensures { result ≡ if_chosen 0 arms.now (readings_in values.now) }
 {
     match if_branch(arms, values) {
@@ -114,7 +114,7 @@ fn selected_case(
     values: &EquationValues<'_>,
 ) -> Result<u32, EvalFault>
     requires evaluable { CanEvaluate (readings_in values.now) expression.now }
-    requires numbers { length arms.now < 4294967296 }
+    requires numbers { length arms.now < branch_limit }
     ensures { result ≡ and_then (λ v. Ok (case_chosen arms.now v)) (value_of expression.now (readings_in values.now)) }
 {
     let found = value(expression, values)?;
@@ -124,7 +124,7 @@ fn selected_case(
 /// The branch of a choice, which has fewer than 2^32, or the first fault.
 pub fn selected(selection: &Selection, values: &EquationValues<'_>) -> Result<u32, EvalFault>
     requires evaluable { CanEvaluateSelection (readings_in values.now) selection.now }
-    requires numbers { branch_count selection.now < 4294967296 }
+    requires numbers { branch_count selection.now < branch_limit }
     ensures { result ≡ branch_chosen (readings_in values.now) selection.now }
 {
     match selection {

@@ -5,7 +5,7 @@ ghost use Rattle.fix_core.specs.Passes.{each, answer, joined};
 ghost use Rattle.design_meaning.specs.Steps.{branch_chosen, selections_of};
 ghost use Rattle.equation_values.specs.Evaluable.{CanEvaluateEquation};
 ghost use Rattle.equation_values.specs.Reading.{readings_in};
-ghost use Rattle.branch_choices.specs.Few.{HasFewBranches};
+ghost use Rattle.design_rules.specs.Branches.{HasFewBranches};
 
 use branch_choice::selected;
 use design_meaning::EvalFault;

@@ -32,7 +32,8 @@ use Rattle.design_meaning.specs.Newton.{of_evaluation}
 use Rattle.design_meaning.specs.Reading.{readings_of}
 use Rattle.design_meaning.specs.Steps.{taken, if_chosen, first_place, or_else, case_chosen, branch_chosen, selections_of, choose}
 use Rattle.design_rules.specs.Equations.{IsBody, IsIfArm, IsSelection, IsEquation}
-use Rattle.design_rules.specs.Rows.{branch_count, AreBranches, RowsAreCounted, ChosenAreBranches}
+use Rattle.design_rules.specs.Branches.{branch_count}
+use Rattle.design_rules.specs.Rows.{AreBranches, RowsAreCounted, ChosenAreBranches}
 
 pub All-tail : {X : Type 0} (P : X → Type 0) → (x : X) (xs : List X) → All P (x ∷ xs) → All P xs
 All-tail P x xs h k d lt = h (suc k) d (omega arith)

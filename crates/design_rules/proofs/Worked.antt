@@ -29,8 +29,9 @@ use Rattle.flat_design.specs.Limits.{frame_limit}
 use Rattle.flat_design.specs.Reads.{is_read, frame_of}
 use Rattle.design_meaning.specs.Typed.{Scope, type_at, HasType}
 use Rattle.cycle_meaning.specs.Task.{Layer}
-use Rattle.design_rules.specs.Ways.{EachStatement, AreWaysRight, AreParametersSafe, IsSafe}
+use Rattle.design_rules.specs.Ways.{EachStatement, AreWaysRight, AreParametersSafe, IsSafe, HasOwn, Nests}
 use Rattle.design_rules.specs.Types.{process_scope, equation_scope, named_at, IsVisible, IsExpression}
+use Rattle.design_rules.specs.Branches.{HasFewBranches}
 use Rattle.design_rules.specs.Equations.{IsPair, stands_at, is_in_equations, IsEquation}
 use Rattle.design_rules.specs.Statements.{IsAllowed, IsWaveElement, IsSignalAssignment, IsForLoop, IsSignalName, IsBreakElement}
 use Rattle.design_rules.specs.Building.{EachIn, HoldsAt, AreRightIn, IsRightAt}
@@ -145,6 +146,9 @@ statements_allowed =
 parameters_safe : AreParametersSafe worked_process
 parameters_safe = each_worked (IsSafe 1) (omega arith, tt, tt, tt)
 
+loops_nest : Nests worked_process
+loops_nest = each_worked HasOwn (refl, tt, tt, tt)
+
 ways_right : AreWaysRight worked_process
 ways_right =
     let at_wait : List PathStep = record { statement = 0; branch = 0 } ∷ [] in
@@ -180,6 +184,7 @@ process_kept =
       drivers = drivers_used;
       ways = ways_right;
       parameters = parameters_safe;
+      nests = loops_nest;
     }
 
 -- ---- the objects
@@ -200,6 +205,7 @@ limits_kept =
       processes = omega arith;
       thresholds = omega arith;
       instances = omega arith;
+      branches = All-cons HasFewBranches (Pair slope) [] tt (All-nil HasFewBranches);
     }
 
 abbrev HasRoom : List ℕ → Type 0

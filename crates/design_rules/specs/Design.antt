@@ -27,9 +27,10 @@ use Rattle.flat_design.specs.Order.{unknown_count, equation_names}
 use Rattle.flat_design.specs.Reads.{frame_of}
 use Rattle.flat_design.specs.Limits.{unknown_limit, frame_limit, signal_limit, process_limit, threshold_limit, instance_limit}
 use Rattle.cycle_meaning.specs.World.{drives}
-use Rattle.design_rules.specs.Ways.{LeadsTo, EachStatement, AreWaysRight, AreParametersSafe}
+use Rattle.design_rules.specs.Ways.{LeadsTo, EachStatement, AreWaysRight, AreParametersSafe, Nests}
 use Rattle.design_rules.specs.Types.{sizes_of, IsDeclaredAs}
 use Rattle.design_rules.specs.Equations.{IsEquation}
+use Rattle.design_rules.specs.Branches.{HasFewBranches}
 use Rattle.design_rules.specs.Statements.{IsAllowed}
 
 -- ---- limits
@@ -41,6 +42,7 @@ pub record KeepsLimits (objects : Objects) : Type 0 where
   pub processes : length objects.processes ≤ process_limit
   pub thresholds : length objects.thresholds ≤ threshold_limit
   pub instances : length objects.instances ≤ instance_limit
+  pub branches : All HasFewBranches objects.equations
 
 -- the most bytes of an enumeration literal
 abbrev pub literal_limit : ℕ
@@ -108,6 +110,7 @@ pub record IsProcess (objects : Objects) (p : Process) : Type 0 where
   pub drivers : AreDriversUsed p
   pub ways : AreWaysRight p
   pub parameters : AreParametersSafe p
+  pub nests : Nests p
 
 -- ---- the design
 

@@ -2,6 +2,7 @@ pub mod Ways
 pub mod Types
 pub mod Choices
 pub mod Equations
+pub mod Branches
 pub mod Statements
 pub mod Design
 pub mod Rows

@@ -1,8 +1,6 @@
 -- How many rows the equation sets of a well-formed design have.
-use Rattle.std.specs.Prelude.{◌≡◌, ◌<◌, ℕ, suc, ℤ, List, [], ◌∷◌, length, Ok}
+use Rattle.std.specs.Prelude.{◌≡◌, ◌<◌, ℕ, ℤ, List, [], ◌∷◌, length, Ok}
 use Rattle.ams_value.specs.declared.val.Val.{Val}
-use Rattle.flat_design.specs.declared.objects.Selection.{Selection}
-use Rattle.flat_design.specs.declared.objects.Selection.TheVariants as selection
 use Rattle.flat_design.specs.declared.objects.Equation.{Equation}
 use Rattle.flat_design.specs.declared.objects.Equation.TheVariants as equation
 use Rattle.flat_design.specs.declared.objects.Objects.{Objects}
@@ -11,12 +9,8 @@ use Rattle.step_data.specs.declared.breaks.Element.{Element}
 use Rattle.step_data.specs.declared.outcome.ChooseKind.{ChooseKind}
 use Rattle.design_meaning.specs.Equations.{Augmentation, rows_of}
 use Rattle.design_meaning.specs.Steps.{choose}
+use Rattle.design_rules.specs.Branches.{branch_count}
 use Rattle.design_rules.specs.Design.{IsDesign}
-
--- the number of branches of a choice; that after `else` is the last
-abbrev pub branch_count : Selection → ℕ
-branch_count (selection.If arms last) = suc (length arms)
-branch_count (selection.Case e arms) = length arms
 
 -- a branch for each choice, in walk order
 abbrev pub AreBranches : List Equation → List ℕ → Type 0

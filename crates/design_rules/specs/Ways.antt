@@ -74,3 +74,12 @@ IsSafe n ps _ = Unit {0}
 -- the parameters of loops are variables of the process, and no statement of their loop assigns them
 abbrev pub AreParametersSafe : Process → Type 0
 AreParametersSafe p = EachStatement (IsSafe (length p.variables)) p.statements
+
+-- the parameter of a loop is none of those of the loops round it (IEEE 1076, 10.10: each is declared by its loop)
+abbrev pub HasOwn : List ℕ → Layer → Type 0
+HasOwn ps (Statement-F.For p left direction right body) = list_any (nat_eq p) ps ≡ false
+HasOwn ps _ = Unit {0}
+
+-- it is so for each loop of the process
+abbrev pub Nests : Process → Type 0
+Nests p = EachStatement HasOwn p.statements

@@ -12,7 +12,7 @@ use Rattle.flat_design.specs.declared.objects.Equation.{Equation}
 use Rattle.flat_design.specs.declared.objects.Equation.TheVariants as equation
 use Rattle.design_meaning.specs.Readings.{Readings}
 use Rattle.design_meaning.specs.Equations.{if_branch, case_branch, branch_of}
-use Rattle.design_rules.specs.Rows.{branch_count}
+use Rattle.design_rules.specs.Branches.{branch_count}
 use Rattle.read_unknowns.specs.Asked.{asked_each, asked_in}
 use Rattle.equation_values.specs.Evaluable.{CanEvaluatePair, CanEvaluateIfArm, CanEvaluateCaseArm, CanEvaluateSelection, CanEvaluateEquation}
 use Rattle.equation_rows.specs.Parts.{pairs_of}

@@ -21,7 +21,7 @@ use Rattle.value_types.proofs.Types.{seen_typed}
 use Rattle.expr_eval.specs.Condition.{CanEvaluate}
 use Rattle.cycle_meaning.specs.Task.{Layer}
 use Rattle.cycle_meaning.specs.World.{Context, Local, readings_at}
-use Rattle.design_rules.specs.Ways.{layer_at, LeadsTo, IsSafe}
+use Rattle.design_rules.specs.Ways.{layer_at, LeadsTo, IsSafe, HasOwn}
 use Rattle.design_rules.specs.Types.{process_scope, IsExpression}
 use Rattle.design_rules.specs.Statements.{MayBe, IsWaveElement, IsBreakElement, limit_in, IsAllowed}
 use Rattle.process_laws.specs.Resumed.{Surroundings, body_in, AreOf}
@@ -29,7 +29,7 @@ use Rattle.process_laws.proofs.Places.{way, parameters_round, leads_on}
 use Rattle.statement_values.specs.Limits.{CanEvaluateLimit}
 use Rattle.statement_values.specs.Parts.{CanEvaluateElement}
 use Rattle.process_ready.specs.Allowed.{CanPerform, EachCan}
-use Rattle.process_ready.specs.Ready.{HasOwn, IsReady}
+use Rattle.process_ready.specs.Ready.{IsReady}
 
 pub leads_to : (top : List Statement) (c : Surroundings) (k : ℕ) (layer : Layer) → AreOf top c → layer_at k (body_in top c) ≡ Some layer →
     LeadsTo (way c ++ []) (parameters_round c ++ []) k layer top
@@ -42,7 +42,7 @@ allowed_at here p l ready c k layer of_text is =
 
 pub own_at : (here : Context) (p : Process) (l : Local) → IsReady here p l → (c : Surroundings) (k : ℕ) (layer : Layer) → AreOf p.statements c → layer_at k (body_in p.statements c) ≡ Some layer →
     HasOwn (parameters_round c ++ []) layer
-own_at here p l ready c k layer of_text is = ready.nests (way c ++ []) (parameters_round c ++ []) k layer (leads_to p.statements c k layer of_text is)
+own_at here p l ready c k layer of_text is = ready.rules.nests (way c ++ []) (parameters_round c ++ []) k layer (leads_to p.statements c k layer of_text is)
 
 pub safe_at : (here : Context) (p : Process) (l : Local) → IsReady here p l → (c : Surroundings) (k : ℕ) (layer : Layer) → AreOf p.statements c → layer_at k (body_in p.statements c) ≡ Some layer →
     IsSafe (length p.variables) (parameters_round c ++ []) layer

@@ -35,7 +35,7 @@ use Rattle.cycle_meaning.specs.Task.{Layer}
 use Rattle.cycle_meaning.specs.World.{Context, Local, readings_at, evaluated, holds, of_fault, refusal, refused_where}
 use Rattle.cycle_meaning.specs.Statements.{signal_assignment, variable_assignment, limit_of, transactions, assigned, constraint_of, break_by, elements_of, with_elements, integer_of, is_empty, timeout_of}
 use Rattle.cycle_meaning.specs.Processes.{with_parameter, parameter_of, stepped}
-use Rattle.design_rules.specs.Ways.{layer_at, inner_body}
+use Rattle.design_rules.specs.Ways.{layer_at, inner_body, HasOwn}
 use Rattle.design_rules.specs.Types.{sizes_of, process_scope, IsExpression}
 use Rattle.design_rules.specs.Statements.{IsAllowed}
 use Rattle.process_laws.specs.Resumed.{Surroundings, outermost, inside, body_in, AreOf}
@@ -49,7 +49,7 @@ use Rattle.statement_lists.specs.Alternatives.{alternative_number}
 use Rattle.process_place.specs.ProcessPlace.{ProcessPlace, at, turning, IsIn}
 use Rattle.process_place.specs.Moves.{Coming, begins_at, turns_to, starts_again, by_truth, past_end, begun_or, coming_at, first_turned, coming, Moved, goes_to, waits_at, is_refused, or_refused, chosen_at, ranged_at, reported_at, asserted_at, behind_loop_at, end_of_turn_at, moved}
 use Rattle.process_ready.specs.Allowed.{IsInteger, LeadRound, MayBegin, LeadAt}
-use Rattle.process_ready.specs.Ready.{HasOwn, IsReady, GoesReady, StaysReady}
+use Rattle.process_ready.specs.Ready.{IsReady, GoesReady, StaysReady}
 use Rattle.process_ready.proofs.Allowed.{allowed_at, own_at, safe_at, each_can, as_many}
 use Rattle.process_ready.proofs.Typing.{ready_with}
 use Rattle.process_ready.proofs.Ways.{lead_other, alone, lead_behind, lead_end, parameter_there, further_way, further_integer, in_range_integer, integer_in_range}
@@ -201,7 +201,6 @@ still_ready here p l after c k ready way same =
       ready = record {
         process_is = ready.process_is;
         rules = ready.rules;
-        nests = ready.nests;
         reads = subst (Reads (process_scope here.objects p)) (sym (same_readings here l after same)) ready.reads;
       };
       way = subst (λ vs. LeadRound vs c) (sym same.3) way;

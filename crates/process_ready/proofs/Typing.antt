@@ -33,7 +33,6 @@ ready_with here p l ready i x v is typed =
     record {
       process_is = ready.process_is;
       rules = ready.rules;
-      nests = ready.nests;
       reads = record {
         signals = ready.reads.signals;
         signals_range = ready.reads.signals_range;

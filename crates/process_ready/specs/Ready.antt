@@ -1,13 +1,12 @@
 -- A process that is ready to run.
-use Rattle.std.specs.Prelude.{◌≡◌, ℕ, false, nat_eq, List, Option, Some}
-use Rattle.std.specs.List.{slice_get, list_any}
+use Rattle.std.specs.Prelude.{◌≡◌, ℕ, Option, Some}
+use Rattle.std.specs.List.{slice_get}
 use Rattle.flat_expr.specs.declared.statement.Statement.{Statement}
-use Rattle.flat_expr.specs.declared.statement.Statement.TheOpen.{Statement-F}
 use Rattle.flat_design.specs.declared.objects.Process.{Process}
 use Rattle.design_meaning.specs.Typed.{Reads}
 use Rattle.cycle_meaning.specs.Task.{Layer}
 use Rattle.cycle_meaning.specs.World.{Context, Local, readings_at}
-use Rattle.design_rules.specs.Ways.{layer_at, EachStatement}
+use Rattle.design_rules.specs.Ways.{layer_at}
 use Rattle.design_rules.specs.Types.{process_scope}
 use Rattle.design_rules.specs.Design.{IsProcess}
 use Rattle.process_laws.specs.Resumed.{Surroundings, body_in, AreOf}
@@ -15,20 +14,10 @@ use Rattle.process_place.specs.ProcessPlace.{ProcessPlace, IsIn}
 use Rattle.process_place.specs.Moves.{begins_at, turns_to, coming, goes_to, waits_at, moved}
 use Rattle.process_ready.specs.Allowed.{EachCan, LeadRound, LeadAt}
 
--- the parameter of a loop is none of those of the loops round it
-abbrev pub HasOwn : List ℕ → Layer → Type 0
-HasOwn ps (Statement-F.For p left direction right body) = list_any (nat_eq p) ps ≡ false
-HasOwn ps _ = Unit {0}
-
--- it is so for each loop of the process
-abbrev pub Nests : Process → Type 0
-Nests p = EachStatement HasOwn p.statements
-
 -- the process is well formed, and all that it reads has a value of its type
 pub record IsReady (here : Context) (p : Process) (l : Local) : Type 0 where
   pub process_is : slice_get here.objects.processes here.process ≡ Some p
   pub rules : IsProcess here.objects p
-  pub nests : Nests p
   pub reads : Reads (process_scope here.objects p) (readings_at here l)
 
 -- and it goes on at a place where the parameters of its loops are on their way

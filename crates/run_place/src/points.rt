@@ -4,7 +4,6 @@ ghost use Rattle.std.specs.Prelude.{◌≡◌, ◌<◌, ◌^◌, ◌++◌, ◌�
 ghost use Rattle.std.proofs.Common.{get_or};
 ghost use Rattle.step_model.specs.Kernel.{AddsFront};
 ghost use Rattle.lockstep_model.specs.Lockstep.{branch_event, branch_events};
-ghost use Rattle.step_data.specs.declared.event.Event.TheVariants.{Solved};
 ghost use Rattle.run_place.specs.Places.{branches_of};
 ghost use Rattle.run_place.specs.Giving.{changes_at, point_at, bound_at};
 
@@ -71,25 +70,6 @@ fn give_branches(
     Ok(())
 }
 
-/// Gives a copy of a point.
-fn give_solved(
-    alloc: Global,
-    out: &mut EventList,
-    at: &Reached,
-    x: &Point,
-) -> Result<(), AllocError>
-    ensures ok { OnOk result (out.new ≡ out.old ++ Solved at.now.t at.now.n x.now ∷ []) }
-    ensures err { OnErr result (out.new ≡ out.old) }
-{
-    let mut copy = Point::new(alloc, x.len())?;
-    copy.copy_from(x);
-    out.push(Event::Solved {
-        t: at.t,
-        n: at.n,
-        x: copy,
-    })
-}
-
 impl RunPlace {
     /// Gives the branches that changed, where they were chosen.
     fn give_changes(
@@ -132,7 +112,7 @@ impl RunPlace {
         ensures err { OnErr result (AddsFront out.old out.new (point_at self.now at.now.t at.now.n x.now is_chosen branches.now)) }
     {
         self.give_changes(out, at, is_chosen, branches)?;
-        give_solved(alloc, out, at, x)
+        out.push_solved(alloc, at.t, at.n, x)
     }
 
     /// Gives the point that processes read, at the time and the delta.

@@ -1,4 +1,5 @@
-ghost use Rattle.std.specs.Prelude.{◌≡◌, ◌<◌, ◌++◌, ◌∷◌, [], length, slice_get, OnOk, OnErr, Some};
+ghost use Rattle.std.specs.Prelude.{◌≡◌, ◌<◌, ◌++◌, ◌∷◌, [], length, slice_get, OnOk, OnErr, IfOk, Some};
+ghost use Rattle.step_data.specs.declared.event.Event.TheVariants.{Solved};
 
 use crate::breaks::BreakList;
 use ams_point::Point;
@@ -104,10 +105,11 @@ pub enum Event {
     },
 }
 
-/// Events in their order.
+/// Events in their order. A point that an event leaves behind is kept for a later one.
 #[derive(Drop)]
 pub struct EventList {
     events: Vec<Event>,
+    spare: Vec<Point>,
 }
 
 impl Model for EventList {
@@ -126,6 +128,7 @@ impl EventList {
     {
         EventList {
             events: Vec::new(alloc),
+            spare: Vec::new(alloc),
         }
     }
 
@@ -138,16 +141,58 @@ impl EventList {
         Ok(())
     }
 
+    /// A point of so many values, one that was kept where it has as many.
+    fn spare_point(&mut self, alloc: Global, n: usize) -> Result<Point, AllocError>
+        ensures list { self.new ≡ self.old }
+        ensures point { IfOk result (λ point. length point ≡ n) }
+    {
+        match self.spare.pop() {
+            Some(point) if point.len() == n => Ok(point),
+            _ => Point::new(alloc, n),
+        }
+    }
+
+    /// Adds that the unknowns have the values of a point, which is copied. No memory is taken where the list has room and a
+    /// point of that length was kept.
+    pub fn push_solved(
+        &mut self,
+        alloc: Global,
+        t: Tick,
+        n: u32,
+        x: &Point,
+    ) -> Result<(), AllocError>
+        ensures ok { OnOk result (self.new ≡ self.old ++ Solved t n x.now ∷ []) }
+        ensures err { OnErr result (self.new ≡ self.old) }
+    {
+        let mut copy = self.spare_point(alloc, x.len())?;
+        copy.copy_from(x);
+        self.push(Event::Solved { t, n, x: copy })
+    }
+
     pub fn len(&self) -> usize
         ensures { result ≡ length self.now }
     {
         self.events.len()
     }
 
-    /// Takes all events out; their memory is kept for later ones.
+    /// Keeps the point of an event, if it has one and room is found.
+    fn keep_point(&mut self, event: Event)
+        ensures { self.new ≡ self.old }
+    {
+        if let Event::Solved { x, .. } = event {
+            let _ = self.spare.push(x);
+        }
+    }
+
+    /// Takes all events out; their memory and their points are kept for later ones.
     pub fn clear(&mut self)
         ensures { self.new ≡ [] }
     {
+        for _ in 0..self.events.len() {
+            if let Some(event) = self.events.pop() {
+                self.keep_point(event);
+            }
+        }
         self.events.clear();
     }
 
