@@ -4,6 +4,6 @@ use Rattle.run_place.proofs.place.RunPlace.give_point.Goals as goal
 
 pub returns-clause-ok : goal.returns-clause-ok
 returns-clause-ok c =
-    point_given c.give_solved.result c.args.out.now c.give_changes.new.out c.give_solved.new.out
+    point_given c.push_solved.result c.args.out.now c.give_changes.new.out c.push_solved.new.self
     (changes_at c.args.self.now c.args.at.now.t c.args.at.now.n c.args.is_chosen c.args.branches.now)
-    c.args.at.now.t c.args.at.now.n c.args.x.now c.in_ok-give_changes.ensures.ok c.give_solved.ensures.ok
+    c.args.at.now.t c.args.at.now.n c.args.x.now c.in_ok-give_changes.ensures.ok c.push_solved.ensures.ok
