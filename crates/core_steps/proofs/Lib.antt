@@ -1,1 +1,2 @@
+mod Nearing
 mod Spent

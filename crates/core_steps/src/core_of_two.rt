@@ -1,13 +1,14 @@
 //! The core: steps of the engine and of the worker over one timeline, in any order.
 
-ghost use Rattle.std.specs.Prelude.{◌≡◌, ◌≤◌, ◌<◌, ◌^◌, ◌+◌, ◌++◌, ℕ, [], OnOk, OnErr, IfOk, None};
+ghost use Rattle.std.specs.Prelude.{◌≡◌, ◌≢◌, ◌≤◌, ◌<◌, ◌^◌, ◌+◌, ◌++◌, ℕ, [], OnOk, OnErr, IfOk, None};
 ghost use Rattle.step_model.specs.Kernel.{AddsFront};
 ghost use Rattle.run_place.specs.Giving.{Gave};
 ghost use Rattle.lockstep_model.specs.Lockstep.{lockstep};
 ghost use Rattle.lockstep_model.specs.Walk as w;
-ghost use Rattle.lockstep_model.specs.Walk.{NoReply, here, EndsAll, Falls};
+ghost use Rattle.lockstep_model.specs.Walk.{NoReply, here, EndsAll, Falls, moves_left};
 ghost use Rattle.lockstep_model.specs.Works.{events_of, attempts_in};
-ghost use Rattle.core_steps.specs.States.{State, first_state, stepped, stepped_all, said, end_said};
+ghost use Rattle.core_steps.specs.States.{State, first_state, stepped, stepped_all, said, end_said, by_engine, engine_steps};
+ghost use Rattle.core_steps.specs.Ending.{Nears};
 ghost use Rattle.core_steps.specs.Kept.{NoneHere};
 ghost use Rattle.core_steps.specs.Laws.{Balanced};
 ghost use Rattle.step_schedule.specs.declared.Step.TheVariants as whose;
@@ -81,7 +82,7 @@ impl<D: Design, S: Stepper<D> + Drop, K: Kernel<D> + Drop> CoreOfTwo<D, S, K> {
 impl<D: Design, S: Stepper<D>, K: Kernel<D>> CoreOfTwo<D, S, K> {
     /// One step. A worker's step says that nothing is asked; where the end was told, each step tells it again and changes
     /// nothing.
-    #[tactic(auto, using(crate::specs::Giving::gave_none, crate::specs::Laws::led_balances, crate::specs::Laws::worked_balances))]
+    #[tactic(auto, using(crate::specs::Giving::gave_none, crate::specs::Laws::led_balances, crate::specs::Laws::worked_balances, crate::specs::Ending::nears_none, crate::specs::Ending::nears_moved))]
     pub fn step(&mut self, step: Step, out: &mut EventList) -> Result<Moved, AllocError>
         ensures state { OnOk result (self.new ≡ stepped (D.system 0) step self.old) }
         ensures says { IfOk result (λ m. m ≡ said step self.old) }
@@ -96,6 +97,7 @@ impl<D: Design, S: Stepper<D>, K: Kernel<D>> CoreOfTwo<D, S, K> {
         // Each attempt is found once or made once, and the engine's steps come to an end.
         ensures balanced { OnOk result ((total : ℕ) → Balanced total self.old.led self.old.line → Balanced total self.new.led self.new.line) }
         ensures falls { step ≡ whose.D → IfOk result (Falls self.old.led.walk self.new.led.walk) }
+        ensures nears { OnOk result (Nears (by_engine step) self.old self.new) }
     {
         if let Some(end) = self.ended {
             return Ok(Moved::Ended(end));
@@ -113,7 +115,8 @@ impl<D: Design, S: Stepper<D>, K: Kernel<D>> CoreOfTwo<D, S, K> {
         }
     }
 
-    /// The steps of a schedule, in order.
+    /// The steps of a schedule, in order. The end was told behind as many steps of the engine as there were moves left, whatever
+    /// the worker did between them.
     pub fn steps(&mut self, schedule: &[Step], out: &mut EventList) -> Result<(), AllocError>
         ensures state { OnOk result (self.new ≡ stepped_all (D.system 0) schedule.now self.old) }
 
@@ -122,6 +125,7 @@ impl<D: Design, S: Stepper<D>, K: Kernel<D>> CoreOfTwo<D, S, K> {
         ensures end { OnOk result (self.new.led.walk.end ≡ self.old.led.walk.end) }
         ensures front { OnErr result (AddsFront out.old out.new (events_of self.old.led.walk.works)) }
         ensures balanced { OnOk result ((total : ℕ) → Balanced total self.old.led self.old.line → Balanced total self.new.led self.new.line) }
+        ensures ended { 0 < moves_left self.old.led.walk → moves_left self.old.led.walk ≤ engine_steps schedule.now → OnOk result (self.new.ended ≢ None) }
     {
         for step in schedule {
             self.step(*step, out)?;

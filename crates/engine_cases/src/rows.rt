@@ -828,6 +828,154 @@ pub const BREAK: Row = Row {
     ],
 };
 
+/// What equations read changes at 12 ns. Ahead of it lies an attempt whose step divides by zero, which a run never comes to: the
+/// attempts begin anew at 12 ns.
+pub const FAILURE_AHEAD: Row = Row {
+    steps: &[
+        Step::Landed {
+            from: 0,
+            size: 5000,
+            units: 66_666_666_667,
+            err: 0,
+        },
+        Step::Landed {
+            from: 5000,
+            size: 5000,
+            units: 100_000_000_000,
+            err: 0,
+        },
+        Step::Refused {
+            from: 10_000,
+            size: 5000,
+            code: VALUE_DIVIDE_BY_ZERO,
+        },
+        Step::Landed {
+            from: 10_000,
+            size: 2000,
+            units: 125_000_000_000,
+            err: 0,
+        },
+        Step::Landed {
+            from: 12_000,
+            size: 5000,
+            units: 30_303_030_303,
+            err: 0,
+        },
+        Step::Landed {
+            from: 17_000,
+            size: 5000,
+            units: 35_714_285_714,
+            err: 0,
+        },
+        Step::Landed {
+            from: 22_000,
+            size: 3000,
+            units: 40_000_000_000,
+            err: 0,
+        },
+    ],
+    solutions: &[(0, 50_000_000_000)],
+    cycles: &[
+        Cycle {
+            given: &[Gives::Break { elements: 0 }],
+            next: Some(12_000),
+            units: 20_000_000_000_000,
+            levels: &[],
+        },
+        Cycle {
+            given: &[],
+            next: Some(12_000),
+            units: 20_000_000_000_000,
+            levels: &[],
+        },
+        Cycle {
+            given: &[Gives::Domain],
+            next: Some(12_000),
+            units: 20_000_000_000_000,
+            levels: &[],
+        },
+        Cycle {
+            given: &[Gives::Real {
+                units: 50_000_000_000_000,
+            }],
+            next: None,
+            units: 50_000_000_000_000,
+            levels: &[],
+        },
+    ],
+    reads: true,
+    stop: 25_000,
+    first: 5000,
+    least: 5000,
+    ltol: 1_000_000_000,
+    lines: &[
+        Line::Broke {
+            t: 0,
+            n: 0,
+            elements: 0,
+        },
+        Line::Point {
+            t: 0,
+            n: 1,
+            units: 50_000_000_000,
+        },
+        Line::Domain { t: 0, n: 2 },
+        Line::Point {
+            t: 5000,
+            n: 0,
+            units: 66_666_666_667,
+        },
+        Line::Point {
+            t: 10_000,
+            n: 0,
+            units: 100_000_000_000,
+        },
+        Line::Point {
+            t: 12_000,
+            n: 0,
+            units: 125_000_000_000,
+        },
+        Line::Real {
+            t: 12_000,
+            n: 0,
+            units: 50_000_000_000_000,
+        },
+        Line::Point {
+            t: 17_000,
+            n: 0,
+            units: 30_303_030_303,
+        },
+        Line::Point {
+            t: 22_000,
+            n: 0,
+            units: 35_714_285_714,
+        },
+        Line::Point {
+            t: 25_000,
+            n: 0,
+            units: 40_000_000_000,
+        },
+    ],
+    moves: &[
+        (1, Says::None, 1, 0, 5000, 0, 0),
+        (1, Says::None, 2, 0, 5000, 0, 0),
+        (1, Says::None, 2, 0, 5000, 0, 1),
+        (1, Says::Begin, 3, 0, 5000, 0, 2),
+        (1, Says::Look { until: 12_000 }, 3, 0, 5000, 0, 2),
+        (1, Says::Consume, 4, 0, 5000, 1, 2),
+        (1, Says::Look { until: 12_000 }, 4, 5000, 5000, 1, 2),
+        (1, Says::Consume, 5, 5000, 5000, 2, 2),
+        (1, Says::None, 6, 10_000, 5000, 2, 2),
+        (1, Says::Begin, 7, 12_000, 5000, 2, 3),
+        (1, Says::Look { until: 25_000 }, 7, 12_000, 5000, 2, 3),
+        (1, Says::Consume, 8, 12_000, 5000, 3, 3),
+        (1, Says::Look { until: 25_000 }, 8, 17_000, 5000, 3, 3),
+        (1, Says::Consume, 9, 17_000, 5000, 4, 3),
+        (1, Says::None, 10, 22_000, 5000, 4, 3),
+        (1, Says::Reached { t: 25_000 }, 10, 22_000, 5000, 4, 3),
+    ],
+};
+
 /// A failed attempt ends the run.
 pub const FAILED_ATTEMPT: Row = Row {
     steps: &[

@@ -5,8 +5,8 @@ ghost use Rattle.std.specs.Prelude.{◌≤◌, ◌<◌, ◌+◌, ◌^◌, IfSome
 ghost use Rattle.step_data.specs.Options.{IsAllowed};
 
 use crate::rows::{
-    BREAK, Cycle, FAILED_ATTEMPT, Gives, Line, Move, ONE_CROSSING, REFUSED_SIDE_STEP, Row, Says,
-    Step, TWO_CROSSINGS,
+    BREAK, Cycle, FAILED_ATTEMPT, FAILURE_AHEAD, Gives, Line, Move, ONE_CROSSING,
+    REFUSED_SIDE_STEP, Row, Says, Step, TWO_CROSSINGS,
 };
 use ams_value::Val;
 use engine_rows::{Looks, Shown, run};
@@ -19,7 +19,7 @@ use std::process::Abort;
 use std::test::Fail;
 use step_data::{BreakList, Cause, Element, End, Event, EventList, Options, Refusal};
 
-fn tick(t: u64) -> Result<Tick, Fail> {
+pub fn tick(t: u64) -> Result<Tick, Fail> {
     Ok(Tick::new(t).ok_or("no tick")?)
 }
 
@@ -39,7 +39,7 @@ fn signal_line(t: u64, n: u32, value: Val) -> Line {
     }
 }
 
-fn line_of(event: &Event) -> Line {
+pub fn line_of(event: &Event) -> Line {
     match event {
         Event::Solved { t, n, x } => match x.as_slice() {
             [value] => Line::Point {
@@ -88,7 +88,7 @@ fn risen(from: u64, size: u64) -> Fix
     Fix::exactly(i128::from(from + size) * 1_000_000)
 }
 
-fn step_row(step: &Step) -> StepRow {
+pub fn step_row(step: &Step) -> StepRow {
     match *step {
         Step::Landed {
             from,
@@ -166,7 +166,7 @@ fn cycle_row(alloc: Global, cycle: &Cycle) -> Result<CycleRow, AllocError> {
     })
 }
 
-fn solution_row(solution: &(u64, i64)) -> SolutionRow {
+pub fn solution_row(solution: &(u64, i64)) -> SolutionRow {
     let (t, units) = *solution;
     SolutionRow {
         at: tick_of(t),
@@ -174,7 +174,7 @@ fn solution_row(solution: &(u64, i64)) -> SolutionRow {
     }
 }
 
-fn cycles_of(alloc: Global, cycles: &[Cycle]) -> Result<Vec<CycleRow>, AllocError> {
+pub fn cycles_of(alloc: Global, cycles: &[Cycle]) -> Result<Vec<CycleRow>, AllocError> {
     let mut rows = Vec::new(alloc);
     for cycle in cycles {
         rows.push(cycle_row(alloc, cycle)?)?;
@@ -194,17 +194,17 @@ fn is_allowed(row: &Row) -> bool
         && row.ltol <= 1_000_000_000_000_000
 }
 
-/// The options of a row; the others are the defaults.
-fn options_of(row: &Row) -> Option<Options>
+/// The options of a row, with at most so many saved attempts; the others are the defaults.
+pub fn options_of(row: &Row, ahead: u32) -> Option<Options>
     ensures { IfSome result (λ options. IsAllowed options) }
 {
-    if !is_allowed(row) {
+    if ahead > 4096 || !is_allowed(row) {
         return None;
     }
     let stop = Tick::new(row.stop)?;
     Some(Options {
         stop,
-        ahead: 64,
+        ahead,
         h0: row.first,
         hmin: row.least,
         hmax: row.first,
@@ -260,7 +260,7 @@ fn shown_of(rt: &impl Abort, alloc: Global, row: &Row, looks: Looks) -> Result<V
     let steps: Vec<StepRow> = row.steps.iter().map(step_row).collect(alloc)?;
     let solutions: Vec<SolutionRow> = row.solutions.iter().map(solution_row).collect(alloc)?;
     let cycles = cycles_of(alloc, row.cycles)?;
-    let options = options_of(row).ok_or("options")?;
+    let options = options_of(row, 64).ok_or("options")?;
     assert!(rt; cycles.len() >= 1);
     let mut out = EventList::new(alloc);
     let mut shown = Vec::new(alloc);
@@ -307,6 +307,11 @@ fn a_refused_side_step_halves_the_step(rt: HostRuntime) -> Result<(), Fail> {
 #[test]
 fn a_break_settles_anew(rt: HostRuntime) -> Result<(), Fail> {
     compare(&rt, rt.alloc(), &BREAK)
+}
+
+#[test]
+fn a_failure_ahead_is_never_met(rt: HostRuntime) -> Result<(), Fail> {
+    compare(&rt, rt.alloc(), &FAILURE_AHEAD)
 }
 
 #[test]
