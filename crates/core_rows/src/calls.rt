@@ -1,6 +1,7 @@
 //! Calls of a timeline over a design whose steps are listed, in any order.
 
-ghost use Rattle.std.specs.Prelude.{◌≡◌, [], length, false, IsTrue, IfOk};
+ghost use Rattle.std.specs.Prelude.{◌≡◌, ◌==◌, List, [], length, false, IsTrue, IfOk};
+ghost use Rattle.ams_value.specs.declared.val.Val.{Val};
 ghost use Rattle.step_data.specs.Options.{IsAllowed};
 ghost use Rattle.step_model.specs.Answers.{IsStep};
 ghost use Rattle.timeline.specs.Jobs.{FitsLengths};
@@ -84,6 +85,45 @@ fn notes_of<D: Design>(alloc: Global, line: &Timeline<D>) -> Result<Vec<Note>, A
     Ok(notes)
 }
 
+/// A timeline on which nothing was begun, with places for notes.
+fn timeline_of<D: Design>(
+    alloc: Global,
+    worker: &Listed<D>,
+    options: &Options,
+) -> Result<Timeline<D>, AllocError>
+    requires options { options.now ≡ (D.system 0).options }
+    requires allowed { IsAllowed options.now }
+    ensures { IfOk result (λ timeline. timeline.part ≡ 0) }
+{
+    let mut line = Timeline::new(
+        alloc,
+        0,
+        options.ahead,
+        options.stop,
+        worker.unknowns(),
+        worker.frame_len(),
+    )?;
+    line.reserve_journal(1000)?;
+    Ok(line)
+}
+
+fn ask_each<D: Design>(
+    asked: &[Asked],
+    start: &mut Start,
+    hand: &mut Hand<D, Listed<D>>,
+    line: &mut Timeline<D>,
+)
+    requires part { line.old.part ≡ 0 }
+    requires lengths { FitsLengths (D.system 0).unknowns (D.system 0).frame_len start.old.tip start.old.frame }
+    requires frame { IsTrue ((D.system 0).is_frame start.old.frame) }
+    requires step { IsStep start.old.tip.h }
+    requires room { length start.old.found.x ≡ (D.system 0).unknowns }
+{
+    for one in asked {
+        ask(*one, start, hand, line);
+    }
+}
+
 fn ask_design<D: Design>(
     alloc: Global,
     steps: &[StepRow],
@@ -92,24 +132,13 @@ fn ask_design<D: Design>(
 ) -> Result<Vec<Note>, AllocError>
     requires solves { SolvesAs (D.system 0) steps.now [] false options }
     requires allowed { IsAllowed options }
+    requires frames { (frame : List Val) → (D.system 0).is_frame frame ≡ (length frame == (D.system 0).frame_len) }
 {
     let worker: Listed<D> = Listed::new(alloc, steps, &[], false, &options)?;
-    let unknowns = worker.unknowns();
-    let frame_len = worker.frame_len();
-    let mut line: Timeline<D> = Timeline::new(
-        alloc,
-        0,
-        options.ahead,
-        options.stop,
-        unknowns,
-        frame_len,
-    )?;
-    line.reserve_journal(1000)?;
-    let mut start = Start::new(alloc, unknowns, frame_len, options.h0)?;
+    let mut line = timeline_of(alloc, &worker, &options)?;
+    let mut start = Start::new(alloc, worker.unknowns(), worker.frame_len(), options.h0)?;
     let mut hand = Hand::new(worker, alloc)?;
-    for one in asked {
-        ask(*one, &mut start, &mut hand, &mut line);
-    }
+    ask_each(asked, &mut start, &mut hand, &mut line);
     notes_of(alloc, &line)
 }
 

@@ -3,8 +3,10 @@
 ghost use Rattle.std.specs.Prelude.{◌≡◌, ◌≤◌, ◌+◌, ◌++◌, length, OnOk, IfOk};
 ghost use Rattle.step_data.specs.Options.{IsAllowed};
 ghost use Rattle.lockstep_model.specs.Lockstep.{lockstep};
+ghost use Rattle.lockstep_model.specs.Walk.{first_walk};
 ghost use Rattle.lockstep_model.specs.Works.{events_of, attempts_in};
 ghost use Rattle.listed_models.specs.Listing.{SolvesAs, RunsAs, system_of};
+ghost use Rattle.core_steps.specs.States.{first_state, first_line};
 ghost use Rattle.engine_rows.specs.Budgets.{HasBudgets};
 
 use core_steps::CoreOfTwo;
@@ -23,6 +25,89 @@ pub struct Replayed {
     pub end: End,
     pub own: u64,
     pub counts: Counts,
+}
+
+/// The engine of a design that is listed, before its run.
+fn engine_of<D: Design>(
+    alloc: Global,
+    steps: &[StepRow],
+    solutions: &[SolutionRow],
+    cycles: Vec<CycleRow>,
+    reads: bool,
+    options: Options,
+) -> Result<Engine<D, Listed<D>, Script<D>>, AllocError>
+    requires solves { SolvesAs (D.system 0) steps.now solutions.now reads options }
+    requires runs { RunsAs (D.system 0) cycles.items reads }
+    requires some { 1 ≤ length cycles.items }
+    requires allowed { IsAllowed options }
+    requires budgets { HasBudgets (D.system 0) }
+    ensures { IfOk result (λ engine. engine.walk ≡ first_walk (D.system 0)) }
+{
+    let stepper: Listed<D> = Listed::new(alloc, steps, solutions, reads, &options)?;
+    let kernel: Script<D> = Script::new(alloc, cycles, reads);
+    Engine::new(stepper, kernel, options, alloc)
+}
+
+/// A timeline on which nothing was begun.
+fn timeline_of<D: Design>(
+    alloc: Global,
+    worker: &Listed<D>,
+    options: &Options,
+) -> Result<Timeline<D>, AllocError>
+    requires options { options.now ≡ (D.system 0).options }
+    requires allowed { IsAllowed options.now }
+    ensures { IfOk result (λ timeline. timeline ≡ record { part = 0; line = first_line (D.system 0) }) }
+{
+    Timeline::new(
+        alloc,
+        0,
+        options.ahead,
+        options.stop,
+        worker.unknowns(),
+        worker.frame_len(),
+    )
+}
+
+/// The core of a design that is listed, before its run.
+fn core_of<D: Design>(
+    alloc: Global,
+    steps: &[StepRow],
+    solutions: &[SolutionRow],
+    cycles: Vec<CycleRow>,
+    reads: bool,
+    options: Options,
+) -> Result<CoreOfTwo<D, Listed<D>, Script<D>>, AllocError>
+    requires solves { SolvesAs (D.system 0) steps.now solutions.now reads options }
+    requires runs { RunsAs (D.system 0) cycles.items reads }
+    requires some { 1 ≤ length cycles.items }
+    requires allowed { IsAllowed options }
+    requires budgets { HasBudgets (D.system 0) }
+    ensures { IfOk result (λ core. core ≡ first_state (D.system 0)) }
+{
+    let worker: Listed<D> = Listed::new(alloc, steps, solutions, reads, &options)?;
+    let line = timeline_of(alloc, &worker, &options)?;
+    let engine = engine_of(alloc, steps, solutions, cycles, reads, options)?;
+    CoreOfTwo::new(engine, worker, line, alloc)
+}
+
+/// The whole run of a core, with the steps of a schedule first.
+fn replay_core<D: Design>(
+    core: &mut CoreOfTwo<D, Listed<D>, Script<D>>,
+    schedule: &[Step],
+    out: &mut EventList,
+) -> Result<Replayed, AllocError>
+    requires fresh { core.old ≡ first_state (D.system 0) }
+    requires budgets { HasBudgets (D.system 0) }
+    ensures events { OnOk result (out.new ≡ out.old ++ events_of (lockstep (D.system 0)).works) }
+    ensures end { IfOk result (λ replayed. replayed.end ≡ (lockstep (D.system 0)).end) }
+    ensures attempts { IfOk result (λ replayed. replayed.own + replayed.counts.reused ≡ attempts_in (lockstep (D.system 0)).works) }
+{
+    let end = core.replay(schedule, out)?;
+    Ok(Replayed {
+        end,
+        own: core.own(),
+        counts: core.counts(),
+    })
 }
 
 fn replay_design<D: Design>(
@@ -44,27 +129,10 @@ fn replay_design<D: Design>(
     ensures end { IfOk result (λ replayed. replayed.end ≡ (lockstep (D.system 0)).end) }
     ensures attempts { IfOk result (λ replayed. replayed.own + replayed.counts.reused ≡ attempts_in (lockstep (D.system 0)).works) }
 {
-    let stepper: Listed<D> = Listed::new(alloc, steps, solutions, reads, &options)?;
-    let worker: Listed<D> = Listed::new(alloc, steps, solutions, reads, &options)?;
-    let kernel: Script<D> = Script::new(alloc, cycles, reads);
-    let unknowns = worker.unknowns();
-    let frame_len = worker.frame_len();
-    let line: Timeline<D> = Timeline::new(
-        alloc,
-        0,
-        options.ahead,
-        options.stop,
-        unknowns,
-        frame_len,
+    let mut core: CoreOfTwo<D, Listed<D>, Script<D>> = core_of(
+        alloc, steps, solutions, cycles, reads, options,
     )?;
-    let engine = Engine::new(stepper, kernel, options, alloc)?;
-    let mut core = CoreOfTwo::new(engine, worker, line, alloc)?;
-    let end = core.replay(schedule, out)?;
-    Ok(Replayed {
-        end,
-        own: core.own(),
-        counts: core.counts(),
-    })
+    replay_core(&mut core, schedule, out)
 }
 
 /// The whole run of a design that is listed, with the steps of a schedule first. Whatever the schedule is, the events and the
