@@ -1,5 +1,8 @@
 //! A timeline with room for one attempt, and one whose stop time is the end of the first: what each call notes.
 
+ghost use Rattle.std.specs.Prelude.{◌≤◌};
+ghost use Rattle.step_data.specs.Options.{IsAllowed};
+
 use crate::tests::tick;
 use core_rows::{Asked, ask_all};
 use fix_core::{Fix, Tick};
@@ -84,7 +87,11 @@ fn landed(from: Tick) -> StepRow {
     }
 }
 
-fn options_to(stop: Tick, ahead: u32) -> Options {
+fn options_to(stop: Tick, ahead: u32) -> Options
+    requires stop { (1 ≤ stop) × (stop ≤ 1000000000000000) }
+    requires ahead { ahead ≤ 4096 }
+    ensures { IsAllowed result }
+{
     Options {
         stop,
         ahead,
@@ -107,7 +114,7 @@ fn compare(
 ) -> Result<(), Fail> {
     let steps = [landed(tick(0)?), landed(tick(5000)?)];
     let stop = tick(stop)?;
-    assert!(rt; stop.get() >= 1 && ahead <= 4096);
+    assert!(rt; stop.get() >= 1 && stop.get() <= 1_000_000_000_000_000 && ahead <= 4096);
     let mut asked = Vec::new(alloc);
     let mut wanted = Vec::new(alloc);
     for (one, note) in rows {
