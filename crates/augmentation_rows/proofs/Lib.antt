@@ -1,0 +1,4 @@
+pub mod Places
+pub mod Filled
+pub mod Elements
+pub mod Steps

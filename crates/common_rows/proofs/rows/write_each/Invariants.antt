@@ -1,0 +1,11 @@
+use Rattle.std.proofs.Common.{◌≡◌, ◌+◌, map, take, drop}
+use Rattle.fix_core.specs.Passes.{each, joined}
+use Rattle.equation_values.specs.Residuals.{residual_at}
+use Rattle.equation_values.specs.Reading.{readings_in}
+use Rattle.common_rows.specs.Forms.{row_by}
+use Rattle.common_rows.proofs.rows.write_each.Given as goal
+
+abbrev pub invariant-loop-i : goal.invariant-loop-i
+invariant-loop-i l =
+    let row = residual_at (readings_in l.values) in
+    joined (take l.first l.fn.out) (each row (map row_by l.forms)) ≡ joined (take (l.first + l.i) l.out) (each row (map row_by (drop l.i l.forms)))
