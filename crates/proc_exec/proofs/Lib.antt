@@ -1,0 +1,4 @@
+pub mod Fronts
+pub mod Performing
+pub mod Stepping
+pub mod Runs
