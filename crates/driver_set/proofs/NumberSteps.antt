@@ -11,7 +11,7 @@ use Rattle.fix_core.specs.Laws.{at_place}
 use Rattle.driver_set.specs.Numbers.{number_of}
 
 -- the first place at which a signal stands, by recursion
-abbrev first_in : ℕ → List ℕ → ℕ
+abbrev pub first_in : ℕ → List ℕ → ℕ
 first_in i [] = 0
 first_in i (x ∷ xs) = cond (nat_eq i x) 0 (suc (first_in i xs))
 
@@ -29,7 +29,7 @@ found_or_end k n h = grind (arith, nat_tests)
 one_more : (k : ℕ) → suc k ≡ 1 + k
 one_more k = omega arith
 
-number_is_first : (i : ℕ) (xs : List ℕ) → number_of xs i ≡ first_in i xs
+pub number_is_first : (i : ℕ) (xs : List ℕ) → number_of xs i ≡ first_in i xs
 number_is_first i xs =
     let same = is_position_or_len (first_in i) (nat_eq i) refl (λ x more. ap (cond (nat_eq i x) 0) (one_more (first_in i more))) xs in
     rw (← same) (found_or_end (first_in i xs) (length xs) (first_in-le i xs))

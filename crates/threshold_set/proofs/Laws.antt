@@ -6,7 +6,7 @@ use Rattle.step_data.specs.Thresholds.{is_above}
 use Rattle.ams_value.specs.declared.val.Val.TheVariants as val
 use Rattle.design_meaning.specs.Readings.{Seen, still}
 use Rattle.cycle_meaning.specs.Cycles.{changed, with_thresholds, threshold_states, is_on}
-use Rattle.threshold_set.specs.Crossed.{crossed, crossed_of, after, sights_of, ThresholdsCross}
+use Rattle.threshold_set.specs.Crossed.{crossed, crossed_of, after, sights_of, off, ThresholdsCross}
 
 signals : (x : List ℤ) (ks : List Threshold) (kept : List Bool) → crossed_of x (threshold_states ks kept) ≡ with_thresholds x ks kept
 signals x [] kept = refl
@@ -19,9 +19,13 @@ states x [] kept = refl
 states x (k ∷ ks) [] = ap (λ l. record { unknown = k.quantity; level = k.level; on = is_above x k.quantity k.level } ∷ l) (states x ks [])
 states x (k ∷ ks) (b ∷ kept) = ap (λ l. record { unknown = k.quantity; level = k.level; on = is_above x k.quantity k.level } ∷ l) (states x ks kept)
 
-read : (x : List ℤ) (ss : List ThresholdState) → sights_of (map (after x) ss) (map (λ (s : Seen). s.event) (crossed_of x ss)) ≡ crossed_of x ss
+read : (x : List ℤ) (ss : List ThresholdState) → sights_of (map (after x) ss) (map (λ (s : ThresholdState). (crossed x s).event) ss) ≡ crossed_of x ss
 read x [] = refl
 read x (s ∷ ss) = ap (λ l. crossed x s ∷ l) (read x ss)
 
+first : (ks : List Threshold) → map off ks ≡ threshold_states ks (map (λ (k : Threshold). false) ks)
+first [] = refl
+first (k ∷ ks) = ap (λ l. off k ∷ l) (first ks)
+
 pub laws : ThresholdsCross
-laws = record { signals = signals; states = states; read = read }
+laws = record { signals = signals; states = states; read = read; first = first }

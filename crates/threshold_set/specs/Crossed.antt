@@ -1,5 +1,5 @@
 -- The thresholds of a cycle, one by one.
-use Rattle.std.specs.Prelude.{◌≡◌, ℕ, Bool, ℤ, List, [], ◌∷◌, map}
+use Rattle.std.specs.Prelude.{◌≡◌, ℕ, Bool, false, ℤ, List, [], ◌∷◌, map, Option, Some, None}
 use Rattle.ams_value.specs.declared.val.Val.{Val}
 use Rattle.ams_value.specs.declared.val.Val.TheVariants as val
 use Rattle.flat_design.specs.declared.objects.Threshold.{Threshold}
@@ -37,9 +37,19 @@ crossed_of x states = map (crossed x) states
 abbrev pub after : List ℤ → ThresholdState → ThresholdState
 after x s = record s { on = is_above x s.unknown s.level }
 
+-- a threshold that is FALSE
+abbrev pub off : Threshold → ThresholdState
+off k = record { unknown = k.quantity; level = k.level; on = false }
+
+-- the value of a threshold signal, FALSE where there is none
+abbrev pub value_of : Option ThresholdState → Val
+value_of (Some s) = val.Bool s.on
+value_of None = val.Bool false
+
 -- so are the threshold signals of a cycle, from those that were kept
 pub record ThresholdsCross : Type 0 where
   pub signals : (x : List ℤ) (ks : List Threshold) (kept : List Bool) → crossed_of x (threshold_states ks kept) ≡ with_thresholds x ks kept
   pub states : (x : List ℤ) (ks : List Threshold) (kept : List Bool)
       → map (after x) (threshold_states ks kept) ≡ threshold_states ks (map (λ (s : Seen). is_on s.value) (with_thresholds x ks kept))
-  pub read : (x : List ℤ) (states : List ThresholdState) → sights_of (map (after x) states) (map (λ (s : Seen). s.event) (crossed_of x states)) ≡ crossed_of x states
+  pub read : (x : List ℤ) (states : List ThresholdState) → sights_of (map (after x) states) (map (λ (s : ThresholdState). (crossed x s).event) states) ≡ crossed_of x states
+  pub first : (ks : List Threshold) → map off ks ≡ threshold_states ks (map (λ (k : Threshold). false) ks)

@@ -1,15 +1,16 @@
 //! The thresholds of a design with their values and their events of a cycle.
 #![tactic(auto)]
 
-ghost use Rattle.std.specs.Prelude.{◌≡◌, ◌++◌, length, map, replicate, pos, int_lt, false, IfOk, OnOk, OnErr, slice_index_or, slice_get, Some};
+ghost use Rattle.std.specs.Prelude.{◌≡◌, ◌<◌, ◌++◌, length, map, replicate, pos, false, IfOk, OnOk, OnErr, slice_index_or, slice_get, slice_set, Some};
 ghost use Rattle.step_data.specs.Thresholds.{is_above};
 ghost use Rattle.step_data.specs.declared.event.Event.TheVariants.{Cross};
+ghost use Rattle.step_data.specs.declared.breaks.ThresholdState.{ThresholdState};
 ghost use Rattle.step_model.specs.Kernel.{AddsFront};
 ghost use Rattle.design_meaning.specs.Readings.{still};
-ghost use Rattle.cycle_meaning.specs.Cycles.{event_if, crossings, threshold_states};
-ghost use Rattle.threshold_set.specs.Crossed.{crossed, after, crossed_of, sights, ThresholdsCross};
+ghost use Rattle.cycle_meaning.specs.Cycles.{event_if, crossings, is_on};
+ghost use Rattle.threshold_set.specs.Crossed.{crossed, after, crossed_of, off, value_of, sights, ThresholdsCross};
 
-use ams_value::Val;
+use ams_value::{Val, equal};
 use fix_core::{Fix, Tick};
 use flat_design::Threshold;
 use std::alloc::{AllocError, Global};
@@ -69,10 +70,79 @@ fn give(
     Ok(())
 }
 
+fn value_at(states: &[ThresholdState], k: u32) -> Val
+    ensures { result ≡ value_of (slice_get states.now k) }
+{
+    match states.get(k as usize) {
+        Some(state) => Val::Bool(state.on),
+        None => Val::Bool(false),
+    }
+}
+
+fn event_at(events: &[bool], k: u32) -> bool
+    ensures { result ≡ slice_index_or events.now k false }
+{
+    match events.get(k as usize) {
+        Some(event) => *event,
+        None => false,
+    }
+}
+
+/// Gives a threshold its value at a point, with its event if it changes.
+fn update_one(
+    list: &mut ThresholdList,
+    events: &mut Vec<bool>,
+    k: u32,
+    point: &Point,
+    t: Tick,
+    n: u32,
+    out: &mut EventList,
+) -> Result<(), AllocError>
+    requires list { k < length list.old }
+    requires events { k < length events.old.items }
+    ensures list { OnOk result ((s : ThresholdState) → slice_get list.old k ≡ Some s → list.new ≡ slice_set list.old k (after point.now s)) }
+    ensures events { OnOk result ((s : ThresholdState) → slice_get list.old k ≡ Some s → events.new.items ≡ slice_set events.old.items k (crossed point.now s).event) }
+    ensures given { OnOk result ((s : ThresholdState) → slice_get list.old k ≡ Some s → out.new ≡ out.old ++ event_if (crossed point.now s).event (Cross t n k (is_on (crossed point.now s).value))) }
+    ensures err { OnErr result (out.new ≡ out.old) }
+    ensures counts { OnErr result (length events.new.items ≡ length events.old.items) }
+    ensures places { OnErr result (length list.new ≡ length list.old) }
+{
+    let state = list.get(k as usize);
+    let on = is_above(point, state.unknown, state.level);
+    let changed = !equal(Val::Bool(state.on), Val::Bool(on));
+    give(out, changed, t, n, k, on)?;
+    list.set(k as usize, ThresholdState { on, ..state });
+    events[k as usize] = changed;
+    Ok(())
+}
+
+/// Gives each threshold its value at a point.
+fn update_all(
+    list: &mut ThresholdList,
+    events: &mut Vec<bool>,
+    point: &Point,
+    t: Tick,
+    n: u32,
+    out: &mut EventList,
+) -> Result<(), AllocError>
+    requires count { length list.old < 4294967296 }
+    requires events { length events.old.items ≡ length list.old }
+    ensures states { OnOk result (list.new ≡ map (after point.now) list.old) }
+    ensures events { OnOk result (events.new.items ≡ map (λ s. (crossed point.now s).event) list.old) }
+    ensures given { OnOk result (out.new ≡ out.old ++ crossings t n 0 (crossed_of point.now list.old)) }
+    ensures front { OnErr result (AddsFront out.old out.new (crossings t n 0 (crossed_of point.now list.old))) }
+    ensures lengths { length events.new.items ≡ length list.new }
+{
+    for k in 0..list.len() as u32 {
+        update_one(list, events, k, point, t, n, out)?;
+    }
+    Ok(())
+}
+
 impl ThresholdSet {
     /// These thresholds, each of which is FALSE.
     pub fn new(alloc: Global, thresholds: &[Threshold]) -> Result<ThresholdSet, AllocError>
-        ensures states { IfOk result (λ set. set.states ≡ threshold_states thresholds.now (replicate (length thresholds.now) false)) }
+        ensures states { IfOk result (λ set. set.states ≡ map off thresholds.now) }
         ensures events { IfOk result (λ set. set.events ≡ replicate (length thresholds.now) false) }
     {
         let mut list = ThresholdList::new(alloc);
@@ -98,22 +168,14 @@ impl ThresholdSet {
     pub fn value(&self, k: u32) -> Val
         ensures { result ≡ (slice_index_or (sights self.now) k (still (Val.Bool false))).value }
     {
-        if (k as usize) < self.list.len() {
-            Val::Bool(self.list.get(k as usize).on)
-        } else {
-            Val::Bool(false)
-        }
+        value_at(self.list.as_slice(), k)
     }
 
     /// Whether a threshold signal had an event.
     pub fn event(&self, k: u32) -> bool
         ensures { result ≡ (slice_index_or (sights self.now) k (still (Val.Bool false))).event }
     {
-        if (k as usize) < self.events.len() {
-            self.events[k as usize]
-        } else {
-            false
-        }
+        event_at(self.events.as_slice(), k)
     }
 
     /// Gives each threshold its value at a point, in order, with the events of those that change. Where no memory is found,
@@ -127,26 +189,11 @@ impl ThresholdSet {
     ) -> Result<(), AllocError>
         requires { length self.old.states < 4294967296 }
         ensures states { OnOk result (self.new.states ≡ map (after point.now) self.old.states) }
-        ensures events { OnOk result (self.new.events ≡ map (λ s. s.event) (crossed_of point.now self.old.states)) }
+        ensures events { OnOk result (self.new.events ≡ map (λ s. (crossed point.now s).event) self.old.states) }
         ensures given { OnOk result (out.new ≡ out.old ++ crossings t n 0 (crossed_of point.now self.old.states)) }
         ensures front { OnErr result (AddsFront out.old out.new (crossings t n 0 (crossed_of point.now self.old.states))) }
     {
-        for k in 0..self.list.len() {
-            let state = self.list.get(k);
-            let on = is_above(point, state.unknown, state.level);
-            let changed = on != state.on;
-            give(out, changed, t, n, k as u32, on)?;
-            self.list.set(
-                k,
-                ThresholdState {
-                    unknown: state.unknown,
-                    level: state.level,
-                    on,
-                },
-            );
-            self.events[k] = changed;
-        }
-        Ok(())
+        update_all(&mut self.list, &mut self.events, point, t, n, out)
     }
 }
 
