@@ -22,9 +22,9 @@ loop-k-preserved c =
     record {
       list = list_more x c.loop-k.k old c.loop-k.list c.update_one.new.list h c.loop-k.invariant.list c.in_ok-update_one.ensures.list;
       events = events_more x c.loop-k.k old c.loop-k.list c.args.events.now.items c.loop-k.events.items c.update_one.new.events.items h c.requires.events c.loop-k.invariant.list
-        c.loop-k.invariant.events c.in_ok-update_one.ensures.events;
+          c.loop-k.invariant.events c.in_ok-update_one.ensures.events;
       given = crossings_more x c.args.t c.args.n c.loop-k.k old c.loop-k.list c.args.out.now c.loop-k.out c.update_one.new.out (crossings c.args.t c.args.n 0 (crossed_of x old)) h
-        c.loop-k.invariant.list c.loop-k.invariant.given c.in_ok-update_one.ensures.given;
+          c.loop-k.invariant.list c.loop-k.invariant.given c.in_ok-update_one.ensures.given;
     }
 
 pub returns-clause-events : goal.returns-clause-events
