@@ -42,11 +42,7 @@ fn numbers_of(alloc: Global, signals: u32, driven: &[u32]) -> Result<Vec<u32>, A
 
 impl DriverNumbers {
     /// The numbers of the drivers of these signals, of so many.
-    pub fn new(
-        alloc: Global,
-        signals: u32,
-        driven: Vec<u32>,
-    ) -> Result<DriverNumbers, AllocError>
+    pub fn new(alloc: Global, signals: u32, driven: Vec<u32>) -> Result<DriverNumbers, AllocError>
         requires within { All (λ i. i < signals) driven.items }
         requires count { length driven.items < 4294967296 }
         ensures { IfOk result (λ numbers. numbers ≡ driven.items) }

@@ -160,7 +160,13 @@ impl DriverSet {
         ensures count { length self.new ≡ length self.old }
     {
         let next = assign_at(&mut self.drivers, number as usize, now, kind, reject, new)?;
-        enter(self.alloc, &mut self.drivers, &mut self.agenda, number, next)
+        enter(
+            self.alloc,
+            &mut self.drivers,
+            &mut self.agenda,
+            number,
+            next,
+        )
     }
 
     /// The time of the first transaction of all.
@@ -188,7 +194,13 @@ impl DriverSet {
         ensures count { length self.new ≡ length self.old }
     {
         let (value, next) = advance_at(&mut self.drivers, number as usize, t);
-        enter(self.alloc, &mut self.drivers, &mut self.agenda, number, next)?;
+        enter(
+            self.alloc,
+            &mut self.drivers,
+            &mut self.agenda,
+            number,
+            next,
+        )?;
         Ok(value)
     }
 }

@@ -1,12 +1,14 @@
 -- One signal changes.
 use Rattle.std.proofs.Common.{◌≡◌, ◌≢◌, ℕ, zero, suc, ◌<◌, ◌+◌, Bool, true, false, List, [], ◌∷◌, ◌++◌, length, get_or, set, Some, refl, sym, ap, ◌∙◌, arith}
-use Rattle.std.specs.Prelude.{slice_get, not, if◌then◌else◌}
+use Rattle.std.specs.Prelude.{slice_get, not, if◌then◌else◌, Option, None, Result, Ok, Err, OnOk, OnErr}
+use Rattle.std.specs.Option.{option_map}
 use Rattle.std.specs.Bool.{MatchBool}
 use Rattle.ams_value.specs.declared.val.Val.{Val}
 use Rattle.ams_value.specs.Values.{equals}
 use Rattle.ams_value.specs.Laws.{values_decide}
-use Rattle.design_meaning.specs.Readings.{still}
-use Rattle.cycle_meaning.specs.Cycles.{changed}
+use Rattle.step_data.specs.declared.trans.Trans.{Trans}
+use Rattle.design_meaning.specs.Readings.{Seen, still}
+use Rattle.cycle_meaning.specs.Cycles.{changed, driving}
 use Rattle.driving_values.specs.Driving.{seens}
 
 pub set_both : (values : List Val) (events : List Bool) (i : ℕ) (v : Val) (b : Bool) → seens (set values i v) (set events i b) ≡ set (seens values events) i (record { value = v; event = b })
@@ -44,9 +46,27 @@ is_event values i v w false h e =
 pub both_set : (values values' : List Val) (events events' : List Bool) (i : ℕ) (v w : Val) (b : Bool)
     → MatchBool b (slice_get values i ≡ Some w → ⊥) (slice_get values i ≡ Some w) → values' ≡ set values i w → events' ≡ (if b then set events i true else events)
     → slice_get events i ≡ Some false → slice_get values i ≡ Some v → seens values' events' ≡ set (seens values events) i (changed (still v) w)
-both_set values values' events events' i v w true h ev ee no e =
+both_set values values' events events' i v w true h ev ee quiet e =
     let event : (changed (still v) w).event ≡ true = is_event values i v w true h e in
     rw (ev, ee) (set_both values events i w true ∙ ap (λ (x : Bool). set (seens values events) i (record { value = w; event = x })) (sym event))
-both_set values values' events events' i v w false h ev ee no e =
+both_set values values' events events' i v w false h ev ee quiet e =
     let event : (changed (still v) w).event ≡ false = is_event values i v w false h e in
-    rw (ev, ee) (ap (seens (set values i w)) (set_same events i false no) ∙ set_both values events i w false ∙ ap (λ (x : Bool). set (seens values events) i (record { value = w; event = x })) (sym event))
+    rw (ev, ee) (ap (seens (set values i w)) (set_same events i false quiet) ∙ set_both values events i w false ∙ ap (λ (x : Bool). set (seens values events) i (record { value = w; event = x })) (sym event))
+
+-- ---- answers
+
+pub on_ok : {A E : Type 0} (r : Result A E) (P : Type 0) → P → OnOk r P
+on_ok (Ok a) P h = h
+on_ok (Err e) P h = tt
+
+pub on_err : {A E : Type 0} (r : Result A E) (P : Type 0) → P → OnErr r P
+on_err (Ok a) P h = tt
+on_err (Err e) P h = h
+
+pub ok_so : {A E : Type 0} (r : Result A E) (P Q : Type 0) → (P → Q) → OnOk r P → OnOk r Q
+ok_so (Ok a) P Q f h = f h
+ok_so (Err e) P Q f h = tt
+
+pub driving_is : (s : Seen) (o : Option Trans) (w : Val) → option_map (λ (x : Trans). x.value) o ≡ Some w → driving s o ≡ changed s w
+driving_is s None w h = cc
+driving_is s (Some x) w h = let same : x.value ≡ w = cc in ap (changed s) same

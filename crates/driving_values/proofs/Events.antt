@@ -54,10 +54,12 @@ front_of t n b zero (x ∷ S) (y ∷ F) e still same =
     (signal_events t n b (y ∷ F), ap (λ l. l ++ signal_events t n b (y ∷ F)) (still_none t n b (x ∷ S) still))
 front_of t n b (suc j) (x ∷ S) (y ∷ F) e still same =
     let more = front_of t n (b + 1) j S F (omega arith) (tail_still j x S still) (λ i d h g. same (suc i) d (omega arith) (omega arith)) in
-    let head : y ≡ x = same 0 y (omega arith) (omega arith) in
-    (more.0, append_assoc (event_if x.event (Signal t n b x.value)) (signal_events t n (b + 1) S) more.0
-    ∙ ap (λ l. event_if x.event (Signal t n b x.value) ++ l) more.1
-    ∙ ap (λ (z : Seen). event_if z.event (Signal t n b z.value) ++ signal_events t n (b + 1) F) (sym head))
+    let head : y ≡ x = same 0 y (omega arith) (omega arith) in (
+      more.0,
+      append_assoc (event_if x.event (Signal t n b x.value)) (signal_events t n (b + 1) S) more.0
+          ∙ ap (λ l. event_if x.event (Signal t n b x.value) ++ l) more.1
+          ∙ ap (λ (z : Seen). event_if z.event (Signal t n b z.value) ++ signal_events t n (b + 1) F) (sym head),
+    )
 
 -- ---- signals that nothing drives stay
 

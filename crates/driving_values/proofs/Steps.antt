@@ -1,6 +1,6 @@
 -- Signals take the values of their drivers one by one.
 use Rattle.std.proofs.Common.{◌≡◌, ℕ, zero, suc, ◌<◌, ◌≤◌, ◌+◌, Bool, true, false, List, [], ◌∷◌, ◌++◌, length, map, filter, get_or, set, Some, inl, inr, refl, sym, ap, subst, ◌∙◌, arith, append_assoc, add-one}
-use Rattle.std.specs.Prelude.{Option, None, nat_eq, nat_lt, cond, replicate, position, find, if◌then◌else◌, slice_get}
+use Rattle.std.specs.Prelude.{Option, None, nat_eq, nat_lt, not, cond, replicate, position, find, if◌then◌else◌, slice_get}
 use Rattle.std.specs.List.{All, AllPairs, position_or_len}
 use Rattle.std.proofs.lemmas.Bool.{cases_lt, cases_eq}
 use Rattle.std.proofs.lemmas.Bool.Decides.{nat_tests}
@@ -37,7 +37,7 @@ driven_same before after d b (s ∷ S) h same =
     rw (here, driven_same before after d (b + 1) S (omega arith) same) refl
 
 -- one signal has taken its value, and nothing is due for it any more
-driven_once : (before after : ℕ → Option Trans) (d b j : ℕ) (S : List Seen) (a s : Seen) → ((i : ℕ) → (i ≡ d → ⊥) → after i ≡ before i) → after d ≡ None → b + j ≡ d → j < length S
+pub driven_once : (before after : ℕ → Option Trans) (d b j : ℕ) (S : List Seen) (a s : Seen) → ((i : ℕ) → (i ≡ d → ⊥) → after i ≡ before i) → after d ≡ None → b + j ≡ d → j < length S
     → a ≡ get_or S j a → s ≡ driving a (before d) → driven_by after b (set S j s) ≡ driven_by before b S
 driven_once before after d b j [] a s same none e h is now = absurd (omega arith)
 driven_once before after d b zero (x ∷ S) a s same none e h is now =
@@ -58,10 +58,10 @@ driven_all dues b (s ∷ S) none = rw (none b, driven_all dues (b + 1) S none) r
 eq_yes : (i j : ℕ) → i ≡ j → nat_eq i j ≡ true
 eq_yes i j e = grind (arith, nat_tests)
 
-eq_no : (i j : ℕ) → (i ≡ j → ⊥) → nat_eq i j ≡ false
+pub eq_no : (i j : ℕ) → (i ≡ j → ⊥) → nat_eq i j ≡ false
 eq_no i j e = grind (arith, nat_tests)
 
-queue_other : (driven : List ℕ) (queues : List (List Trans)) (k i d : ℕ) (q : List Trans) → k < length driven → d ≡ get_or driven k d → (i ≡ d → ⊥)
+pub queue_other : (driven : List ℕ) (queues : List (List Trans)) (k i d : ℕ) (q : List Trans) → k < length driven → d ≡ get_or driven k d → (i ≡ d → ⊥)
     → queue_in i driven (set queues k q) ≡ queue_in i driven queues
 queue_other [] queues k i d q h is other = absurd (omega arith)
 queue_other (j ∷ driven) [] zero i d q h is other = refl
@@ -69,7 +69,7 @@ queue_other (j ∷ driven) [] (suc k) i d q h is other = refl
 queue_other (j ∷ driven) (p ∷ queues) zero i d q h is other = let miss : nat_eq i j ≡ false = eq_no i j (λ e. other (e ∙ sym is)) in rw miss refl
 queue_other (j ∷ driven) (p ∷ queues) (suc k) i d q h is other = ap (λ l. if nat_eq i j then p else l) (queue_other driven queues k i d q (omega arith) is other)
 
-queue_here : (driven : List ℕ) (queues : List (List Trans)) (k d : ℕ) → AllPairs (λ a b. a < b) driven → k < length driven → k < length queues → d ≡ get_or driven k d → queue_in d driven queues ≡ get_or queues k []
+pub queue_here : (driven : List ℕ) (queues : List (List Trans)) (k d : ℕ) → AllPairs (λ a b. a < b) driven → k < length driven → k < length queues → d ≡ get_or driven k d → queue_in d driven queues ≡ get_or queues k []
 queue_here [] queues k d rising h g is = absurd (omega arith)
 queue_here (j ∷ driven) [] k d rising h g is = absurd (omega arith)
 queue_here (j ∷ driven) (p ∷ queues) zero d rising h g is = let hit : nat_eq d j ≡ true = eq_yes d j is in rw hit refl
@@ -82,7 +82,7 @@ choose : (P : List Trans → Type 0) (b : Bool) (x y : List Trans) → P x → P
 choose P true x y p q = p
 choose P false x y p q = q
 
-queue_has : (P : List Trans → Type 0) (driven : List ℕ) (queues : List (List Trans)) (i : ℕ) → P [] → All P queues → P (queue_in i driven queues)
+pub queue_has : (P : List Trans → Type 0) (driven : List ℕ) (queues : List (List Trans)) (i : ℕ) → P [] → All P queues → P (queue_in i driven queues)
 queue_has P [] queues i none all = none
 queue_has P (j ∷ driven) [] i none all = none
 queue_has P (j ∷ driven) (q ∷ queues) i none all = choose P (nat_eq i j) q (queue_in i driven queues) (All-head P q queues all) (queue_has P driven queues i none (All-tail P q queues all))
@@ -98,15 +98,15 @@ after_no t x h = grind (arith, nat_tests)
 at_no : (t : ℕ) (x : Trans) → t < x.at → is_at t x ≡ false
 at_no t x h = grind (arith, nat_tests)
 
-none_due : (t : ℕ) (q : List Trans) → All (λ (y : Trans). t < y.at) q → due t q ≡ None
+pub none_due : (t : ℕ) (q : List Trans) → All (λ (y : Trans). t < y.at) q → due t q ≡ None
 none_due t [] later = refl
 none_due t (x ∷ q) later = rw (at_no t x (All-head (λ (y : Trans). t < y.at) x q later)) (none_due t q (All-tail (λ (y : Trans). t < y.at) x q later))
 
-all_stay : (t : ℕ) (q : List Trans) → All (λ (y : Trans). t < y.at) q → advanced t q ≡ q
+pub all_stay : (t : ℕ) (q : List Trans) → All (λ (y : Trans). t < y.at) q → advanced t q ≡ q
 all_stay t [] later = refl
 all_stay t (x ∷ q) later = rw (after_yes t x (All-head (λ (y : Trans). t < y.at) x q later), all_stay t q (All-tail (λ (y : Trans). t < y.at) x q later)) refl
 
-later_ones : (t : ℕ) (q : List Trans) → All (λ (y : Trans). t < y.at) (advanced t q)
+pub later_ones : (t : ℕ) (q : List Trans) → All (λ (y : Trans). t < y.at) (advanced t q)
 later_ones t [] = All-nil (λ (y : Trans). t < y.at)
 later_ones t (x ∷ q) =
     elim (cases_lt t x.at) [
@@ -114,24 +114,24 @@ later_ones t (x ∷ q) =
       | inr h ↦ rw (after_no t x h) (later_ones t q)
     ]
 
-not_first : (t : ℕ) (q : List Trans) → stands_first t q ≡ false → All (λ (y : Trans). t ≤ y.at) q → IsRising q → All (λ (y : Trans). t < y.at) q
-not_first t [] no late rising = All-nil (λ (y : Trans). t < y.at)
-not_first t (x ∷ q) no late rising = all_after t (x ∷ q) x refl late (λ e. let hit : nat_eq x.at t ≡ true = eq_yes x.at t e in cc) rising
+pub not_first : (t : ℕ) (q : List Trans) → stands_first t q ≡ false → All (λ (y : Trans). t ≤ y.at) q → IsRising q → All (λ (y : Trans). t < y.at) q
+not_first t [] other late rising = All-nil (λ (y : Trans). t < y.at)
+not_first t (x ∷ q) other late rising = all_after t (x ∷ q) x refl late (λ e. let hit : nat_eq x.at t ≡ true = eq_yes x.at t e in cc) rising
 
 -- where none stands first, nothing changes
 both : {P Q R : List Trans → Type 0} → ((q : List Trans) → P q → Q q → R q) → (queues : List (List Trans)) → All P queues → All Q queues → All R queues
 both {R = R} f [] p q = All-nil R
 both {P = P} {Q = Q} {R = R} f (x ∷ queues) p q = All-cons R x queues (f x (All-head P x queues p) (All-head Q x queues q)) (both f queues (All-tail P x queues p) (All-tail Q x queues q))
 
-abbrev IsLater : ℕ → List Trans → Type 0
+abbrev pub IsLater : ℕ → List Trans → Type 0
 IsLater t q = All (λ (y : Trans). t < y.at) q
 
 all_later : (t : ℕ) (queues : List (List Trans)) → All (λ (q : List Trans). stands_first t q ≡ false) queues → AreLate t queues → AreRising queues → All (IsLater t) queues
-all_later t [] no late rising = All-nil (IsLater t)
-all_later t (q ∷ queues) no late rising =
+all_later t [] others late rising = All-nil (IsLater t)
+all_later t (q ∷ queues) others late rising =
     All-cons (IsLater t) q queues
-    (not_first t q (All-head (λ (x : List Trans). stands_first t x ≡ false) q queues no) (All-head (λ (x : List Trans). All (λ (y : Trans). t ≤ y.at) x) q queues late) (All-head (λ (x : List Trans). IsRising x) q queues rising))
-    (all_later t queues (All-tail (λ (x : List Trans). stands_first t x ≡ false) q queues no) (All-tail (λ (x : List Trans). All (λ (y : Trans). t ≤ y.at) x) q queues late) (All-tail (λ (x : List Trans). IsRising x) q queues rising))
+    (not_first t q (All-head (λ (x : List Trans). stands_first t x ≡ false) q queues others) (All-head (λ (x : List Trans). All (λ (y : Trans). t ≤ y.at) x) q queues late) (All-head (λ (x : List Trans). IsRising x) q queues rising))
+    (all_later t queues (All-tail (λ (x : List Trans). stands_first t x ≡ false) q queues others) (All-tail (λ (x : List Trans). All (λ (y : Trans). t ≤ y.at) x) q queues late) (All-tail (λ (x : List Trans). IsRising x) q queues rising))
 
 pub none_advances : (t : ℕ) (queues : List (List Trans)) → All (IsLater t) queues → map (advanced t) queues ≡ queues
 none_advances t [] all = refl
@@ -139,15 +139,16 @@ none_advances t (q ∷ queues) all = rw (all_stay t q (All-head (IsLater t) q qu
 
 -- ---- the first one that is due
 
+one_missing : (p : List Trans → Bool) (x : List Trans) (queues : List (List Trans)) (b : Bool) → p x ≡ b → length (x ∷ queues) ≤ cond (not b) (1 + position_or_len p queues) 0
+    → (p x ≡ false) × (length queues ≤ position_or_len p queues)
+one_missing p x queues true e h = absurd (omega arith)
+one_missing p x queues false e h = (e, omega arith)
+
 missing : (p : List Trans → Bool) (queues : List (List Trans)) → length queues ≤ position_or_len p queues → All (λ (q : List Trans). p q ≡ false) queues
 missing p [] h = All-nil (λ (q : List Trans). p q ≡ false)
-missing p (x ∷ queues) h = at (p x) refl h
-  where
-    at : (b : Bool) → p x ≡ b → length (x ∷ queues) ≤ position_or_len p (x ∷ queues) → All (λ (q : List Trans). p q ≡ false) (x ∷ queues)
-    at true e g = let none : position_or_len p (x ∷ queues) ≡ 0 = rw e refl in absurd (omega arith)
-    at false e g =
-        let more : position_or_len p (x ∷ queues) ≡ 1 + position_or_len p queues = rw e refl in
-        All-cons (λ (q : List Trans). p q ≡ false) x queues e (missing p queues (omega arith))
+missing p (x ∷ queues) h =
+    let here = one_missing p x queues (p x) refl h in
+    All-cons (λ (q : List Trans). p q ≡ false) x queues here.0 (missing p queues here.1)
 
 nothing_found : (n m : ℕ) → cond (nat_lt n m) (Some n) None ≡ None → m ≤ n
 nothing_found n m e =

@@ -1,11 +1,10 @@
 -- A signal that a process drives has a driver.
-use Rattle.std.proofs.Common.{◌≡◌, ◌<◌, ◌≤◌, ◌+◌, ℕ, zero, suc, Bool, true, false, List, [], ◌∷◌, ◌||◌, length, Some, inl, inr, refl, sym, ap, subst, ◌∙◌, arith}
+use Rattle.std.proofs.Common.{◌≡◌, ◌<◌, ◌≤◌, ◌+◌, ℕ, zero, suc, Bool, true, false, List, [], ◌∷◌, ◌||◌, length, Some, inl, inr, refl, arith}
 use Rattle.std.specs.Prelude.{slice_get, nat_eq, filter, cond}
 use Rattle.std.specs.List.{list_any, range_with_len}
 use Rattle.std.proofs.lemmas.Bool.{cases_eq}
 use Rattle.std.proofs.lemmas.Bool.Decides.{nat_tests}
 use Rattle.flat_design.specs.declared.objects.Process.{Process}
-use Rattle.flat_design.specs.declared.objects.Objects.{Objects}
 use Rattle.step_data.specs.declared.trans.Trans.{Trans}
 use Rattle.cycle_meaning.specs.World.{Context, drives, driven_of}
 use Rattle.process_ready.specs.Allowed.{IsDriven}

@@ -1,15 +1,15 @@
 -- What is read is that of the definition.
-use Rattle.std.proofs.Common.{◌≡◌, ◌<◌, ◌≤◌, ◌+◌, ℕ, zero, suc, Bool, true, false, ℤ, pos, List, [], ◌∷◌, length, take, drop, get_or, Some, inl, inr, refl, sym, ap, ◌∙◌, arith}
+use Rattle.std.proofs.Common.{◌≡◌, ◌<◌, ◌≤◌, ◌+◌, ℕ, zero, suc, Bool, true, false, ℤ, pos, List, [], ◌∷◌, length, take, drop, Some, inl, inr, refl, sym, ap, ◌∙◌, arith}
 use Rattle.std.specs.Prelude.{slice_get, slice_index_or, nat_lt}
 use Rattle.std.proofs.lemmas.Bool.{cases_lt}
 use Rattle.std.proofs.lemmas.Bool.Decides.{nat_tests}
-use Rattle.std.proofs.lemmas.List.{get_or-drop, get_or-take, length-take}
+use Rattle.std.proofs.lemmas.List.{get_or-drop}
 use Rattle.ams_value.specs.declared.val.Val.{Val}
 use Rattle.ams_value.specs.declared.val.Val.TheVariants as val
 use Rattle.flat_expr.specs.declared.expr.Unknown.{Unknown}
 use Rattle.flat_expr.specs.declared.expr.Unknown.TheVariants.{Quantity, Reference, Dot}
 use Rattle.flat_design.specs.declared.objects.Objects.{Objects}
-use Rattle.design_meaning.specs.Readings.{Seen, still, Readings, unknown_of}
+use Rattle.design_meaning.specs.Readings.{Seen, still, unknown_of}
 use Rattle.design_meaning.specs.Reading.{quantities_in, references_in, dots_in}
 use Rattle.kernel_world.specs.Reading.{seens, unknown_in}
 use Rattle.kernel_world.specs.Acting.{readings_of}

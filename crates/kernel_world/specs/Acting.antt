@@ -1,6 +1,6 @@
 -- The context of the process that runs, and what it changes.
 use Rattle.std.specs.Prelude.{◌≡◌, refl}
-use Rattle.design_meaning.specs.Readings.{Readings, Seen}
+use Rattle.design_meaning.specs.Readings.{Readings}
 use Rattle.cycle_meaning.specs.World.{World as CycleWorld, Context, Local, readings_at}
 use Rattle.threshold_set.specs.Crossed.{sights}
 use Rattle.kernel_world.specs.Reading.{seens, domain_value}

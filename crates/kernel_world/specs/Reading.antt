@@ -1,5 +1,5 @@
 -- Signals, unknowns and DOMAIN as they are read.
-use Rattle.std.specs.Prelude.{ℕ, Bool, true, nat_lt, if◌then◌else◌, ℤ, pos, List, [], ◌∷◌, length}
+use Rattle.std.specs.Prelude.{Bool, true, nat_lt, if◌then◌else◌, ℤ, pos, List, [], ◌∷◌, length}
 use Rattle.std.specs.List.{slice_index_or}
 use Rattle.ams_value.specs.declared.val.Val.{Val}
 use Rattle.flat_expr.specs.declared.expr.Unknown.{Unknown}

@@ -5,6 +5,7 @@
 mod effects;
 mod reading;
 mod reads;
+mod start;
 mod world;
 
 pub use world::World;

@@ -1,5 +1,5 @@
 -- Threshold signals as they are read.
-use Rattle.std.proofs.Common.{◌≡◌, ℕ, zero, suc, Bool, false, List, [], ◌∷◌, length, get_or, refl, arith}
+use Rattle.std.proofs.Common.{◌≡◌, ℕ, zero, suc, Bool, false, List, [], ◌∷◌, length, refl, arith}
 use Rattle.std.specs.Prelude.{slice_get, slice_index_or}
 use Rattle.ams_value.specs.declared.val.Val.TheVariants as val
 use Rattle.step_data.specs.declared.breaks.ThresholdState.{ThresholdState}

@@ -1,5 +1,5 @@
 -- The thresholds of a cycle, one by one.
-use Rattle.std.specs.Prelude.{◌≡◌, ℕ, Bool, false, ℤ, List, [], ◌∷◌, map, Option, Some, None}
+use Rattle.std.specs.Prelude.{◌≡◌, Bool, false, ℤ, List, [], ◌∷◌, map, Option, Some, None}
 use Rattle.ams_value.specs.declared.val.Val.{Val}
 use Rattle.ams_value.specs.declared.val.Val.TheVariants as val
 use Rattle.flat_design.specs.declared.objects.Threshold.{Threshold}

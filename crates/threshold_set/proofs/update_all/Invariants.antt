@@ -1,4 +1,4 @@
-use Rattle.std.proofs.Common.{◌≡◌, map, drop}
+use Rattle.std.proofs.Common.{◌≡◌, drop}
 use Rattle.cycle_meaning.specs.Cycles.{crossings}
 use Rattle.threshold_set.specs.Crossed.{after, crossed, crossed_of}
 use Rattle.threshold_set.specs.Given.{Given}

@@ -24,8 +24,8 @@ returns-else-time-get c =
     let other : k.0 ≡ c.args.t → ⊥ = λ e. c.if-time-get.false (e ∙ sym c.get.ensures.value) in
     rw (← c.self.view_is)
     (sym (first_missing times c.args.t (λ r h.
-        let least : k.0 ≤ c.args.t = pair_le k.0 k.1 c.args.t r (c.in-Some.ensures.least (c.args.t, r) (c.self.invariant c.args.t r ∙ h)) in
-        other (omega arith))))
+    let least : k.0 ≤ c.args.t = pair_le k.0 k.1 c.args.t r (c.in-Some.ensures.least (c.args.t, r) (c.self.invariant c.args.t r ∙ h)) in
+    other (omega arith))))
 
 pub returns-in_default : goal.returns-in_default
 returns-in_default c =

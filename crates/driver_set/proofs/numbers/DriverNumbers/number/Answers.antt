@@ -9,13 +9,13 @@ pub index-requires : goal.index-requires
 index-requires c =
     let asked : number_of c.self.inside.signals.items c.args.signal < length c.self.inside.signals.items = rw c.self.view_is c.requires in
     let inside : c.args.signal < length c.self.inside.numbers.items =
-      driven_inside c.self.inside.signals.items c.args.signal (length c.self.inside.numbers.items) asked c.self.invariant.within in
+    driven_inside c.self.inside.signals.items c.args.signal (length c.self.inside.numbers.items) asked c.self.invariant.within in
     grind (arith, common_steps, inside)
 
 pub returns : goal.returns
 returns c =
     let asked : number_of c.self.inside.signals.items c.args.signal < length c.self.inside.signals.items = rw c.self.view_is c.requires in
     let inside : c.args.signal < length c.self.inside.numbers.items =
-      driven_inside c.self.inside.signals.items c.args.signal (length c.self.inside.numbers.items) asked c.self.invariant.within in
+    driven_inside c.self.inside.signals.items c.args.signal (length c.self.inside.numbers.items) asked c.self.invariant.within in
     c.index.ensures ∙ get_or_default c.self.inside.numbers.items c.args.signal c.index.result.now 0 inside
     ∙ c.self.invariant.are c.args.signal inside ∙ ap (λ (driven : List ℕ). number_of driven c.args.signal) c.self.view_is
