@@ -1,13 +1,14 @@
 -- Pairs of a time and a source, and what the order of them says of the times.
-use Rattle.std.proofs.Common.{◌≡◌, ℕ, zero, suc, ◌<◌, ◌≤◌, Bool, true, false, ◌||◌, ◌&&◌, List, [], ◌∷◌, length, get_or, set, Some, inl, inr, refl, sym, ap, ◌∙◌, arith}
-use Rattle.std.specs.Prelude.{nat_eq, not, cond, Option, None, IfSome}
-use Rattle.std.specs.List.{All, list_any}
+use Rattle.std.proofs.Common.{◌≡◌, ℕ, zero, suc, ◌<◌, ◌≤◌, Bool, true, false, ◌||◌, ◌&&◌, List, [], ◌∷◌, length, get_or, set, Some, inl, inr, refl, sym, ap, subst, ◌∙◌, arith}
+use Rattle.std.specs.Prelude.{nat_eq, not, cond, Option, None, IfSome, nat_lt, position}
+use Rattle.std.specs.List.{All, list_any, position_or_len}
 use Rattle.std.specs.BTreeSet.{BTreeSet, contains}
 use Rattle.std.specs.Ordering.{nat_cmp, is_eq, is_gt}
 use Rattle.std.specs.declared.cmp.Ordering.TheVariants.{Less, Equal, Greater}
 use Rattle.std.specs.Cmp.{nat_cmp_is}
 use Rattle.std.proofs.lemmas.Bool.{cases_lt, cases_eq}
 use Rattle.std.proofs.lemmas.Bool.Decides.{nat_tests}
+use Rattle.std.proofs.lemmas.List.Sums.{position_or_len_is}
 use Rattle.std.proofs.lemmas.List.{get_or_default, get_or-set_same, get_or-set_other}
 use Rattle.agenda.specs.Times.{pair_cmp, is_time, is_key, stands, IsLeast}
 
@@ -148,3 +149,48 @@ none_in test (k ∷ keys) none = absurd (none (omega arith))
 
 pub none_contained : (order : BTreeSet (ℕ × ℕ)) (t s : ℕ) → (0 < length order.keys → ⊥) → contains pair_cmp order (t, s) ≡ false
 none_contained order t s none = none_in (λ k. is_eq (pair_cmp (t, s) k)) order.keys none
+
+-- ---- the first source with a time
+
+same_then : (a b d : ℕ) → is_gt (pair_cmp (a, b) (a, d)) ≡ is_gt (nat_cmp b d)
+same_then a b d = rw (← nat_cmp_is a a Equal refl) refl
+
+cmp_le : (b d : ℕ) → is_gt (nat_cmp b d) ≡ false → b ≤ d
+cmp_le b d e =
+    elim (cases_lt d b) [
+      | inl greater ↦ absurd (let f = rw (← nat_cmp_is b d Greater greater) at e in cc)
+      | inr le ↦ le
+    ]
+
+pub source_le : (t s u r : ℕ) → t ≡ u → is_gt (pair_cmp (t, s) (u, r)) ≡ false → s ≤ r
+source_le t s u r same e = cmp_le s r (sym (same_then t s r) ∙ subst (λ (x : ℕ). is_gt (pair_cmp (t, s) (x, r)) ≡ false) (sym same) e)
+
+position_found : (times : List (Option ℕ)) (n s : ℕ) → n ≡ s → s < length times → cond (nat_lt n (length times)) (Some n) None ≡ Some s
+position_found times n s e h = let t : nat_lt n (length times) ≡ true = grind (arith, nat_tests) in rw (t, e) refl
+
+position_gone : (times : List (Option ℕ)) (n : ℕ) → n ≡ length times → cond (nat_lt n (length times)) (Some n) None ≡ None
+position_gone times n e = let t : nat_lt n (length times) ≡ false = grind (arith, nat_tests) in rw t refl
+
+not_at : (b : Bool) → (b ≡ true → ⊥) → b ≡ false
+not_at true other = absurd (other refl)
+not_at false other = refl
+
+pub first_found : (times : List (Option ℕ)) (t s : ℕ) → stands times t s ≡ true → ((r : ℕ) → stands times t r ≡ true → s ≤ r) → position (λ time. is_time time t) times ≡ Some s
+first_found times t s there first =
+    let inside : s < length times = (found times t s there).0 in
+    position_found times (position_or_len (λ time. is_time time t) times) s
+    (position_or_len_is (λ time. is_time time t) times s None (omega arith)
+    (λ k less. not_at (stands times t k) (λ e. let le : s ≤ k = first k e in omega arith)) (λ _. there)) inside
+
+pub first_missing : (times : List (Option ℕ)) (t : ℕ) → ((r : ℕ) → stands times t r ≡ true → ⊥) → position (λ time. is_time time t) times ≡ None
+first_missing times t none =
+    position_gone times (position_or_len (λ time. is_time time t) times)
+    (position_or_len_is (λ time. is_time time t) times (length times) None (omega arith)
+    (λ k less. not_at (stands times t k) (none k)) (λ h. absurd (omega arith)))
+
+time_le : (t : ℕ) (time : Option ℕ) (u : ℕ) → time ≡ Some u → IfSome time (λ v. t ≤ v) → t ≤ u
+time_le t None u e h = cc
+time_le t (Some v) u e h = let same : v ≡ u = cc in omega arith
+
+pub from_time : (times : List (Option ℕ)) (t u s : ℕ) → All (λ time. IfSome time (λ v. t ≤ v)) times → stands times u s ≡ true → t ≤ u
+from_time times t u s all there = let f = found times u s there in time_le t (get_or times s None) u f.1 (all s None f.0)

@@ -1,11 +1,11 @@
 //! The pending times of the sources of digital work: the first transaction of each driver, the timeout of each process.
 #![tactic(auto)]
 
-ghost use Rattle.std.specs.Prelude.{◌≡◌, ◌≤◌, ◌<◌, ◌↔◌, ◌||◌, ◌&&◌, ℕ, not, length, replicate, Some, None, IfOk, OnOk, OnErr, IsNone, IfSome, slice_index_or, slice_set};
+ghost use Rattle.std.specs.Prelude.{◌≡◌, ◌≤◌, ◌<◌, ◌↔◌, ◌||◌, ◌&&◌, ℕ, not, length, replicate, Some, None, IfOk, OnOk, OnErr, IsNone, IfSome, position, slice_index_or, slice_set};
 ghost use Rattle.std.specs.List.{All, Contains};
 ghost use Rattle.std.specs.BTreeSet.{contains};
 ghost use Rattle.step_data.specs.Times.{earliest_of};
-ghost use Rattle.agenda.specs.Times.{pair_cmp, is_key, IsLeast};
+ghost use Rattle.agenda.specs.Times.{pair_cmp, is_time, is_key, IsLeast};
 
 use fix_core::Tick;
 use std::alloc::{AllocError, Global};
@@ -92,6 +92,28 @@ impl Agenda {
         leave(&mut self.order, source, before);
         self.times[source as usize] = at;
         Ok(())
+    }
+
+    /// Takes a source's time out, without memory.
+    pub fn forget(&mut self, source: u32)
+        requires { source < length self.old }
+        ensures { self.new ≡ slice_set self.old source None }
+    {
+        let last = self.times[source as usize];
+        leave(&mut self.order, source, last);
+        self.times[source as usize] = None;
+    }
+
+    /// The first source whose time is `t`, where no time is earlier.
+    pub fn first_at(&self, t: Tick) -> Option<u32>
+        requires { All (λ time. IfSome time (λ u. t ≤ u)) self.now }
+        ensures { result ≡ position (λ time. is_time time t) self.now }
+    {
+        let Some(key) = self.order.first() else {
+            return None;
+        };
+        let (time, source) = *key;
+        if time == t.get() { Some(source) } else { None }
     }
 
     /// The least time.

@@ -1,0 +1,2 @@
+pub mod QueueSteps
+pub mod NumberSteps

@@ -1,0 +1,3 @@
+pub mod Queues
+pub mod InStep
+pub mod Numbers

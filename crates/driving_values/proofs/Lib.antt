@@ -1,0 +1,4 @@
+pub mod Steps
+pub mod Changing
+pub mod Events
+pub mod Loop

@@ -1,0 +1,11 @@
+//! What the processes of a design act on: its signals, thresholds, drivers, breaks and events, and the variables of the process
+//! that runs.
+#![tactic(auto)]
+
+mod effects;
+mod reading;
+mod reads;
+mod start;
+mod world;
+
+pub use world::World;
