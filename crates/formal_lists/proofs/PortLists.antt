@@ -1,11 +1,10 @@
 -- The ports of declarations, one behind the other.
-use Rattle.std.proofs.Common.{◌≡◌, ℕ, List, [], ◌∷◌, ◌++◌, map, Option, Some, None, refl, sym, ap, ◌∙◌}
+use Rattle.std.proofs.Common.{◌≡◌, List, [], ◌∷◌, ◌++◌, map, Option, Some, None, refl, ap, ◌∙◌}
 use Rattle.std.specs.List.{flat_map}
 use Rattle.ams_tree.specs.declared.expression.Name.{Name}
 use Rattle.ams_tree.specs.declared.declaration.Port.{Port}
 use Rattle.ams_tree.specs.declared.declaration.Port.TheVariants as port
 use Rattle.unit_meaning.specs.Associations.{port_natures}
-use Rattle.formal_lists.specs.declared.ports.PortFormal.{PortFormal}
 use Rattle.formal_lists.specs.Pairs.{port_pair, port_of, ports_of}
 
 map_append : {A B : Type 0} (f : A → B) (xs ys : List A) → map f (xs ++ ys) ≡ map f xs ++ map f ys

@@ -1,6 +1,5 @@
 -- Generics whose subtype is read once, for the formals and for their own declaration.
 use Rattle.std.specs.Prelude.{ℕ, List, [], ◌∷◌, ◌++◌, map, Option, Some, None}
-use Rattle.ams_tree.specs.declared.expression.Name.{Name}
 use Rattle.ams_tree.specs.declared.expression.Expr.{Expr}
 use Rattle.ams_tree.specs.declared.declaration.Generic.{Generic}
 use Rattle.name_scope.specs.declared.thing.Subtype.{Subtype}

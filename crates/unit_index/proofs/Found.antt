@@ -1,5 +1,5 @@
 -- One more unit.
-use Rattle.std.proofs.Common.{◌≡◌, ℕ, zero, suc, ◌+◌, nat_eq, Bool, true, false, ◌&&◌, ◌||◌, cond, if◌then◌else◌, List, [], ◌∷◌, ◌++◌, take, slice_get, Option, Some, None, is_some, Bor, refl, sym, ap, ◌∙◌, subst, arith, add-one}
+use Rattle.std.proofs.Common.{◌≡◌, ℕ, zero, suc, ◌+◌, nat_eq, Bool, true, false, ◌&&◌, ◌||◌, cond, List, [], ◌∷◌, ◌++◌, take, slice_get, Option, Some, None, is_some, Bor, refl, sym, ap, ◌∙◌, arith, add-one}
 use Rattle.std.specs.List.{list_any}
 use Rattle.std.specs.Option.{option_copied}
 use Rattle.std.proofs.lemmas.Bool.Decides.{nat_tests}
@@ -9,7 +9,7 @@ use Rattle.ams_tree.specs.declared.design.Entity.{Entity}
 use Rattle.ams_tree.specs.declared.design.Architecture.{Architecture}
 use Rattle.unit_meaning.specs.Associations.{entity_in, architecture_in, or_this, is_asked}
 use Rattle.unit_meaning.specs.Units.{is_entity, is_architecture}
-use Rattle.unit_index.specs.Index.{Known, known, entity_at, architecture_at, some_entity, some_architecture, entity_of, architecture_of, AreFound, is_other}
+use Rattle.unit_index.specs.Index.{Known, known, entity_at, architecture_at, some_entity, some_architecture, AreFound, is_other}
 
 -- ---- what is found, and whether it is there
 
