@@ -1,0 +1,3 @@
+pub mod Entries
+pub mod PortLists
+pub mod ReadOnce
