@@ -1,5 +1,5 @@
 -- The process is well formed, and ready at its first statement.
-use Rattle.std.proofs.Common.{◌≡◌, ◌<◌, ◌≤◌, ◌≢◌, refl, ap, sym, ◌∙◌, subst, ℕ, pos, Bool, false, List, [], ◌∷◌, Option, Some, None, arith}
+use Rattle.std.proofs.Common.{◌≡◌, ◌<◌, ◌≤◌, ◌≢◌, refl, ap, sym, ◌∙◌, subst, ℕ, zero, suc, pos, Bool, false, List, [], ◌∷◌, Option, Some, None, slice_set, arith}
 use Rattle.std.specs.Prelude.{IsTrue}
 use Rattle.std.specs.List.{All}
 use Rattle.std.proofs.lemmas.List.Elements.{All-nil, All-cons}
@@ -23,6 +23,7 @@ use Rattle.flat_expr.specs.declared.statement.Statement.TheVariants.{rolls-Loop,
 use Rattle.flat_design.specs.declared.objects.WaitPlace.{WaitPlace}
 use Rattle.step_data.specs.declared.breaks.Element.{Element}
 use Rattle.step_data.specs.declared.event.Event.{Event}
+use Rattle.step_data.specs.declared.trans.Trans.{Trans}
 use Rattle.design_meaning.specs.Readings.{Seen}
 use Rattle.design_meaning.specs.Typed.{type_at}
 use Rattle.cycle_meaning.specs.Task.{Layer}
@@ -169,7 +170,7 @@ HasRange x = IsTrue (is_in_range (sizes_of case_objects) x.value)
 abbrev IsBoolean : Seen → Type 0
 IsBoolean x = type_of x.value ≡ kind.Boolean
 
-is_world : (t : ℕ) → t ≤ most_ticks → IsWorld (case_context t) (case_local [] false []).world
+is_world : (t : ℕ) → t ≤ most_ticks → IsWorld (case_context 0 t) (case_local [] [] false []).world
 is_world t early =
     record {
       signals = refl;
@@ -184,9 +185,16 @@ is_world t early =
       now = early;
     }
 
-pub starts : (t : ℕ) → t ≤ most_ticks → StandsReady (case_context t) (case_local [] false []) case_text at_first
-starts t early = starts_ready (case_context t) (case_local [] false []).world case_process refl process_kept (is_world t early)
+starts : (t : ℕ) → t ≤ most_ticks → StandsReady (case_context 0 t) (case_local [] [] false []) case_text at_first
+starts t early = starts_ready (case_context 0 t) (case_local [] [] false []).world case_process refl process_kept (is_world t early)
 
-pub ready_at : (t : ℕ) (elements : List Element) (broke : Bool) (events : List Event) (text : List Statement) → t ≡ 0 → elements ≡ [] → broke ≡ false → events ≡ [] → text ≡ case_text
-    → StandsReady (case_context t) (case_local elements broke events) text at_first
-ready_at t elements broke events text time none still no_events same = rw (time, none, still, no_events, same) (starts 0 (omega arith))
+pub ready_at : (process t : ℕ) (variables : List Val) (elements : List Element) (broke : Bool) (events : List Event) (text : List Statement)
+    → process ≡ 0 → t ≡ 0 → variables ≡ [] → elements ≡ [] → broke ≡ false → events ≡ [] → text ≡ case_text
+    → StandsReady (case_context process t) (case_local variables elements broke events) text at_first
+ready_at process t variables elements broke events text first time no_variables none still no_events same =
+    rw (first, time, no_variables, none, still, no_events, same) (starts 0 (omega arith))
+
+-- no driver has a queue here
+pub no_queue : (i : ℕ) (pending : List Trans) → slice_set [] i pending ≡ []
+no_queue zero pending = refl
+no_queue (suc i) pending = refl

@@ -1,5 +1,6 @@
 -- A process that waits in a loop without an end and leaves it, reports, waits for 5 ps, and then turns without a wait.
 use Rattle.std.specs.Prelude.{◌≡◌, refl, ℕ, Bool, pos, List, [], ◌∷◌, Some, None}
+use Rattle.ams_value.specs.declared.val.Val.{Val}
 use Rattle.ams_value.specs.declared.val.Val.TheVariants as val
 use Rattle.flat_expr.specs.declared.expr.FlatExpr.TheVariants as e
 use Rattle.flat_expr.specs.declared.statement.Severity.TheVariants.{Note}
@@ -45,22 +46,26 @@ case_process =
           ∷ [];
     }
 
+-- a process that drives a signal, and isn't run
+abbrev pub driving : Process
+driving = record case_process { drivers = 0 ∷ [] }
+
 abbrev pub case_objects : Objects
-case_objects = record no_objects { processes = case_process ∷ []; enumerations = domain_type ∷ [] }
+case_objects = record no_objects { processes = case_process ∷ driving ∷ []; enumerations = domain_type ∷ [] }
 
--- what it runs in
-abbrev pub case_context : ℕ → Context
-case_context t = record { objects = case_objects; process = 0; t = t; n = 0; x = [] }
+-- what a process runs in
+abbrev pub case_context : ℕ → ℕ → Context
+case_context process t = record { objects = case_objects; process = process; t = t; n = 0; x = [] }
 
-abbrev pub case_local : List Element → Bool → List Event → Local
-case_local elements broke events =
+abbrev pub case_local : List Val → List Element → Bool → List Event → Local
+case_local variables elements broke events =
     record {
       world = record { signals = []; thresholds = []; domain = still (val.Enum 0 0); queues = []; elements = elements; broke = broke; events = events };
-      variables = [];
+      variables = variables;
     }
 
-abbrev pub case_readings : ℕ → Readings
-case_readings t =
+abbrev pub case_readings : List Val → ℕ → Readings
+case_readings variables t =
     record {
       signals = [];
       thresholds = [];
@@ -68,9 +73,10 @@ case_readings t =
       quantities = [];
       references = [];
       dots = [];
-      variables = [];
+      variables = variables;
       now = t;
     }
 
-pub case_reads : (t : ℕ) (elements : List Element) (broke : Bool) (events : List Event) → readings_at (case_context t) (case_local elements broke events) ≡ case_readings t
-case_reads t elements broke events = refl
+pub case_reads : (process t : ℕ) (variables : List Val) (elements : List Element) (broke : Bool) (events : List Event)
+    → readings_at (case_context process t) (case_local variables elements broke events) ≡ case_readings variables t
+case_reads process t variables elements broke events = refl

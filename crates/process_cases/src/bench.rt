@@ -1,4 +1,4 @@
-//! What the process acts on: it has no signals and no variables.
+//! What a process acts on. There are no signals, so what is assigned is kept nowhere.
 ghost use Rattle.std.specs.Prelude.{◌≡◌, ◌++◌, [], false, IfOk, OnOk};
 
 use ams_value::Val;
@@ -15,23 +15,29 @@ use waveform::DelayKind;
 #[derive(Drop)]
 pub struct Bench {
     pub alloc: Global,
+    pub process: u32,
     pub time: Tick,
+    pub variables: Vec<Val>,
     pub elements: BreakList,
     pub broke: bool,
     pub events: EventList,
 }
 
 impl Bench {
-    /// At a time, with no events.
+    /// The first process at a time, with no events.
     pub fn new(alloc: Global, time: Tick) -> Bench
+        ensures process { result.process ≡ 0 }
         ensures time { result.time ≡ time }
+        ensures variables { result.variables.items ≡ [] }
         ensures elements { result.elements ≡ [] }
         ensures broke { result.broke ≡ false }
         ensures events { result.events ≡ [] }
     {
         Bench {
             alloc,
+            process: 0,
             time,
+            variables: Vec::new(alloc),
             elements: BreakList::new(alloc),
             broke: false,
             events: EventList::new(alloc),
@@ -42,7 +48,7 @@ impl Bench {
 impl Values for Bench {
     ghost use Rattle.process_cases.specs.Cases.{case_readings};
 
-    ghost readings = { λ b. case_readings b.time };
+    ghost readings = { λ b. case_readings b.variables.items b.time };
 
     fn signal(&self, name: SignalName) -> Val {
         match name {
@@ -59,8 +65,11 @@ impl Values for Bench {
         Fix::exactly(0)
     }
 
-    fn variable(&self, _number: u32) -> Val {
-        Val::Bool(false)
+    fn variable(&self, number: u32) -> Val {
+        match self.variables.as_slice().get(number as usize) {
+            Some(value) => *value,
+            None => Val::Bool(false),
+        }
     }
 
     fn time(&self) -> Tick {
@@ -71,15 +80,15 @@ impl Values for Bench {
 impl Activation for Bench {
     ghost use Rattle.process_cases.specs.Cases.{case_context, case_local, case_reads};
 
-    ghost context = { λ b. case_context b.time };
+    ghost context = { λ b. case_context b.process b.time };
 
-    ghost local = { λ b. case_local b.elements b.broke b.events };
+    ghost local = { λ b. case_local b.variables.items b.elements b.broke b.events };
 
     fn process(&self) -> u32 {
-        0
+        self.process
     }
 
-    ghost reads = { λ b. case_reads b.time b.elements b.broke b.events };
+    ghost reads = { λ b. case_reads b.process b.time b.variables.items b.elements b.broke b.events };
 }
 
 fn text_of(alloc: Global, bytes: &[u8]) -> Result<Text, AllocError>
@@ -118,8 +127,11 @@ impl Effects for Bench {
         self.elements.as_slice()
     }
 
-    fn set_variable(&mut self, _number: u32, _value: Val) {}
+    fn set_variable(&mut self, number: u32, value: Val) {
+        self.variables[number as usize] = value;
+    }
 
+    #[tactic(auto, using(crate::proofs::Rules::no_queue))]
     fn assign(
         &mut self,
         _signal: u32,

@@ -29,8 +29,8 @@ fn next_run(
     stack: &mut ProcessStack,
     room: &mut StatementRoom,
 ) -> Result<Wait, ListFault>
-    requires { StandsReady (case_context bench.old.time) (case_local bench.old.elements bench.old.broke bench.old.events) text.now stack.old }
-    ensures { OnOk result (StandsReady (case_context bench.new.time) (case_local bench.new.elements bench.new.broke bench.new.events) text.now stack.new) }
+    requires { StandsReady (case_context bench.old.process bench.old.time) (case_local bench.old.variables.items bench.old.elements bench.old.broke bench.old.events) text.now stack.old }
+    ensures { OnOk result (StandsReady (case_context bench.new.process bench.new.time) (case_local bench.new.variables.items bench.new.elements bench.new.broke bench.new.events) text.now stack.new) }
 {
     run(bench, text, stack, room)
 }
@@ -55,7 +55,7 @@ fn print_row(rt: &HostRuntime, answer: Result<Wait, ListFault>, events: usize) -
 }
 
 fn print_runs(rt: &HostRuntime, bench: &mut Bench, text: &[Statement]) -> io::Result<()>
-    requires { StandsReady (case_context bench.old.time) (case_local bench.old.elements bench.old.broke bench.old.events) text.now at_first }
+    requires { StandsReady (case_context bench.old.process bench.old.time) (case_local bench.old.variables.items bench.old.elements bench.old.broke bench.old.events) text.now at_first }
 {
     let mut stack = ProcessStack::new(rt.alloc());
     let mut room = StatementRoom::new(rt.alloc());
