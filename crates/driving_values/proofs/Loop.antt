@@ -1,11 +1,11 @@
 -- The signals as far as they have taken the values of their drivers.
-use Rattle.std.proofs.Common.{◌≡◌, ℕ, zero, suc, ◌<◌, ◌≤◌, ◌+◌, Bool, true, false, List, [], ◌∷◌, ◌++◌, length, map, get_or, set, Some, inl, inr, refl, sym, ap, subst, ◌∙◌, arith, append_assoc}
-use Rattle.std.specs.Prelude.{Option, None, nat_eq, nat_lt, position, replicate, slice_get, if◌then◌else◌}
+use Rattle.std.proofs.Common.{◌≡◌, ℕ, zero, suc, ◌<◌, ◌≤◌, ◌+◌, Bool, true, false, List, [], ◌∷◌, ◌++◌, length, map, get_or, set, Some, inl, inr, refl, sym, ap, ◌∙◌, arith, append_assoc}
+use Rattle.std.specs.Prelude.{None, nat_eq, position, replicate, slice_get, if◌then◌else◌}
 use Rattle.std.specs.List.{All, AllPairs}
 use Rattle.std.proofs.lemmas.Bool.{cases_lt, cases_eq}
 use Rattle.std.proofs.lemmas.List.{append-nil, length-set, get_or-set_same, get_or-set_other}
 use Rattle.std.proofs.lemmas.List.Quantifiers.{position-Some}
-use Rattle.std.proofs.lemmas.List.Elements.{All-nil, All-head, All-tail, All-cons, All-set, All-filter}
+use Rattle.std.proofs.lemmas.List.Elements.{All-nil, All-head, All-tail, All-set, All-filter}
 use Rattle.std.proofs.lemmas.Option.{get_or_from_slice_get, slice_get-get_or}
 use Rattle.std.proofs.Math.Seq.{map-set_same}
 use Rattle.ams_value.specs.declared.val.Val.{Val}
@@ -19,7 +19,7 @@ use Rattle.waveform.specs.Projected.{IsRising}
 use Rattle.design_meaning.specs.Readings.{Seen, still}
 use Rattle.cycle_meaning.specs.Cycles.{event_if, first_time, driving, queue_in, with_driving, signal_events}
 use Rattle.driver_set.specs.Queues.{AreLate, AreRising, stands_first}
-use Rattle.driver_set.proofs.QueueSteps.{rising_at, advanced_rising}
+use Rattle.driver_set.proofs.QueueSteps.{advanced_rising}
 use Rattle.driving_values.specs.Driving.{seens, due_for, driven_by, IsOrdered}
 use Rattle.driving_values.proofs.Steps.{with_driving_is, cleared, driven_once, driven_all, eq_no, queue_other, queue_here, queue_has, none_due, all_stay, later_ones, not_first, none_advances, all_waited, time_found, how_many, one_fewer}
 use Rattle.driving_values.proofs.Events.{StillFrom, given_once, front_of, length_driven, driven_at, length_seens, seen_at, event_still}

@@ -1,22 +1,18 @@
 -- Signals take the values of their drivers one by one.
-use Rattle.std.proofs.Common.{◌≡◌, ℕ, zero, suc, ◌<◌, ◌≤◌, ◌+◌, Bool, true, false, List, [], ◌∷◌, ◌++◌, length, map, filter, get_or, set, Some, inl, inr, refl, sym, ap, subst, ◌∙◌, arith, append_assoc, add-one}
-use Rattle.std.specs.Prelude.{Option, None, nat_eq, nat_lt, not, cond, replicate, position, find, if◌then◌else◌, slice_get}
+use Rattle.std.proofs.Common.{◌≡◌, ℕ, zero, suc, ◌<◌, ◌≤◌, ◌+◌, Bool, true, false, List, [], ◌∷◌, length, map, get_or, set, Some, inl, inr, refl, sym, ap, ◌∙◌, arith}
+use Rattle.std.specs.Prelude.{Option, None, nat_eq, nat_lt, not, cond, replicate, position, if◌then◌else◌}
 use Rattle.std.specs.List.{All, AllPairs, position_or_len}
 use Rattle.std.proofs.lemmas.Bool.{cases_lt, cases_eq}
 use Rattle.std.proofs.lemmas.Bool.Decides.{nat_tests}
-use Rattle.std.proofs.lemmas.List.{append-nil, map-set, length-set, get_or_default}
-use Rattle.std.proofs.lemmas.List.Elements.{All-nil, All-head, All-tail, All-cons, All-set, All-filter}
-use Rattle.std.proofs.lemmas.List.Kept.{AllPairs-filter}
+use Rattle.std.proofs.lemmas.List.Elements.{All-nil, All-head, All-tail, All-cons}
 use Rattle.ams_value.specs.declared.val.Val.{Val}
 use Rattle.step_data.specs.declared.trans.Trans.{Trans}
-use Rattle.step_data.specs.declared.event.Event.{Event}
-use Rattle.step_data.specs.declared.event.Event.TheVariants.{Signal}
 use Rattle.step_data.specs.Pending.{due, advanced, is_at, is_after}
 use Rattle.waveform.specs.Projected.{IsRising}
 use Rattle.waveform.proofs.Advance.{all_after}
 use Rattle.agenda.specs.Times.{is_time}
 use Rattle.design_meaning.specs.Readings.{Seen, still}
-use Rattle.cycle_meaning.specs.Cycles.{changed, event_if, first_time, driving, queue_in, with_driving, signal_events}
+use Rattle.cycle_meaning.specs.Cycles.{driving, queue_in, with_driving}
 use Rattle.driver_set.specs.Queues.{AreLate, AreRising, stands_first}
 use Rattle.driving_values.specs.Driving.{seens, due_for, driven_by}
 

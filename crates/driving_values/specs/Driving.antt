@@ -1,5 +1,5 @@
 -- Signals and their drivers in a cycle.
-use Rattle.std.specs.Prelude.{◌≡◌, ◌<◌, ℕ, ◌+◌, Bool, List, [], ◌∷◌, length, map, Option}
+use Rattle.std.specs.Prelude.{◌<◌, ℕ, ◌+◌, Bool, List, [], ◌∷◌, Option}
 use Rattle.std.specs.List.{All, AllPairs}
 use Rattle.ams_value.specs.declared.val.Val.{Val}
 use Rattle.step_data.specs.declared.trans.Trans.{Trans}

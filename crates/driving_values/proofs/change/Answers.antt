@@ -1,4 +1,4 @@
-use Rattle.std.proofs.Common.{◌≡◌, ◌++◌, ◌∙◌, Bool, false, Some, List, sym, ap, set}
+use Rattle.std.proofs.Common.{◌≡◌, ◌++◌, ◌∙◌, Bool, Some, sym, ap, set}
 use Rattle.std.specs.Prelude.{slice_get}
 use Rattle.ams_value.specs.declared.val.Val.{Val}
 use Rattle.step_data.specs.declared.event.Event.TheVariants.{Signal}

@@ -1,5 +1,5 @@
-use Rattle.std.proofs.Common.{◌≡◌, ◌<◌, ◌∙◌, ℕ, List, Some, length, get_or, sym, ap, false}
-use Rattle.std.specs.Prelude.{position, None}
+use Rattle.std.proofs.Common.{◌≡◌, ◌∙◌, ℕ, Some, length, get_or, sym, ap, false}
+use Rattle.std.specs.Prelude.{position}
 use Rattle.ams_value.specs.declared.val.Val.TheVariants as val
 use Rattle.signal_store.specs.Signals.{Signals}
 use Rattle.step_model.specs.Kernel.{AddsFront}
