@@ -1,8 +1,9 @@
 //! Lists of associations (IEEE 1076, 6.5.7.1).
-ghost use Rattle.std.specs.Prelude.{◌≡◌, ◌∷◌, ◌++◌, [], OnOk};
+ghost use Rattle.std.specs.Prelude.{◌≡◌, ◌∷◌, ◌++◌, [], IfOk, OnOk};
 ghost use Rattle.unit_meaning.specs.Associations as spec;
 ghost use Rattle.association_types.specs.Rules as rules;
 ghost use Rattle.expr_types.specs.Known.{Finds, IsSoundScope};
+ghost use Rattle.instance_matches.specs.Sound.{AreSound};
 
 use crate::generics::generic_actual;
 use crate::ports::port_actual;
@@ -61,6 +62,7 @@ fn add_open(
     add_assigned(association_place(formal, place), formal, &actual, list)
 }
 
+#[tactic(auto, using(crate::proofs::Sound::sound_behind))]
 fn add_generic_actual(
     alloc: Global,
     names: &Names,
@@ -72,8 +74,10 @@ fn add_generic_actual(
     notes: &mut Notes,
     list: &mut Items<Assigned>,
 ) -> Result<(), AllocError>
-    requires { IsSoundScope scope.now }
-    ensures { OnOk result (rules.HasAdded (rules.one_actual (rules.generic_rule names.now scope.now) formals.now at formal expr.now notes.old) notes.new list.old list.new) }
+    requires scope { IsSoundScope scope.now }
+    requires list { AreSound list.old }
+    ensures ok { OnOk result (rules.HasAdded (rules.one_actual (rules.generic_rule names.now scope.now) formals.now at formal expr.now notes.old) notes.new list.old list.new) }
+    ensures sound { OnOk result (AreSound list.new) }
 {
     let place = association_place(formal, place_of(expr));
     let named = formals.formal_at(at, formal);
@@ -83,6 +87,7 @@ fn add_generic_actual(
     }
 }
 
+#[tactic(auto, using(crate::proofs::Sound::sound_behind))]
 fn add_generic(
     alloc: Global,
     names: &Names,
@@ -93,8 +98,10 @@ fn add_generic(
     notes: &mut Notes,
     list: &mut Items<Assigned>,
 ) -> Result<(), AllocError>
-    requires { IsSoundScope scope.now }
-    ensures { OnOk result (rules.HasAdded (rules.one (rules.generic_rule names.now scope.now) formals.now at association.now notes.old) notes.new list.old list.new) }
+    requires scope { IsSoundScope scope.now }
+    requires list { AreSound list.old }
+    ensures ok { OnOk result (rules.HasAdded (rules.one (rules.generic_rule names.now scope.now) formals.now at association.now notes.old) notes.new list.old list.new) }
+    ensures sound { OnOk result (AreSound list.new) }
 {
     match association {
         Association::Open(formal, place) => add_open(*formal, *place, list),
@@ -114,7 +121,8 @@ pub fn generic_associations(
     notes: &mut Notes,
 ) -> Result<Items<Assigned>, AllocError>
     requires { IsSoundScope scope.now }
-    ensures { Finds (spec.associations (rules.generic_rule names.now scope.now) formals.now 0 all.now notes.old) result notes.new }
+    ensures found { Finds (spec.associations (rules.generic_rule names.now scope.now) formals.now 0 all.now notes.old) result notes.new }
+    ensures sound { IfOk result (λ list. AreSound list) }
 {
     let mut list = Items::new(alloc);
     for (at, association) in all.iter().enumerate() {

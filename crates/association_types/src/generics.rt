@@ -1,11 +1,13 @@
 //! Actuals of generics (IEEE 1076, 6.5.7.2).
-ghost use Rattle.std.specs.Prelude.{◌≡◌};
+ghost use Rattle.std.specs.Prelude.{◌≡◌, IfOk};
 ghost use Rattle.elab_meaning.specs.Parts.{judged};
 ghost use Rattle.name_scope.specs.Scopes.{lookup};
 ghost use Rattle.ams_tree.specs.declared.expression.Expr.{out-Expr};
 ghost use Rattle.unit_meaning.specs.Associations as spec;
 ghost use Rattle.unit_meaning.specs.Settings.{finished};
-ghost use Rattle.expr_types.specs.Known.{Finds, IsSoundScope};
+ghost use Rattle.expr_types.specs.Known.{Finds, IsSoundAsked, IsSoundScope};
+ghost use Rattle.subtype_types.specs.Sound.{OnKept};
+ghost use Rattle.instance_matches.specs.Sound.{IsSoundActual};
 
 use ams_token::{Names, Place};
 use ams_tree::{Expr, Name};
@@ -35,7 +37,9 @@ fn has_no_value(thing: &Option<Thing>) -> bool
 
 /// The value belongs to the formal's subtype, where both are known.
 fn formal_suits(formal: &Option<Option<Subtype>>, asked: &Asked) -> Part<Asked>
-    ensures { result ≡ spec.formal_suits formal.now asked.now }
+    requires { IsSoundAsked asked.now }
+    ensures value { result ≡ spec.formal_suits formal.now asked.now }
+    ensures sound { OnKept IsSoundAsked result }
 {
     match formal {
         Some(Some(subtype)) => {
@@ -52,7 +56,9 @@ fn formal_suits(formal: &Option<Option<Subtype>>, asked: &Asked) -> Part<Asked>
 }
 
 fn suiting_part(formal: &Option<Option<Subtype>>, part: &Part<Asked>) -> Part<Asked>
-    ensures { result ≡ judged (spec.formal_suits formal.now) part.now }
+    requires { OnKept IsSoundAsked part.now }
+    ensures value { result ≡ judged (spec.formal_suits formal.now) part.now }
+    ensures sound { OnKept IsSoundAsked result }
 {
     match part {
         Part::Kept(asked) => formal_suits(formal, asked),
@@ -62,7 +68,9 @@ fn suiting_part(formal: &Option<Option<Subtype>>, part: &Part<Asked>) -> Part<As
 }
 
 fn value_of(part: &Part<Asked>) -> Actual
-    ensures { result ≡ spec.value_of part.now }
+    requires { OnKept IsSoundAsked part.now }
+    ensures value { result ≡ spec.value_of part.now }
+    ensures sound { IsSoundActual result }
 {
     match part {
         Part::Kept(asked) => Actual::Value(asked.kind, asked.value),
@@ -78,7 +86,9 @@ fn value_found(
     part: &Part<Asked>,
     notes: &mut Notes,
 ) -> Result<Actual, AllocError>
-    ensures { Finds (spec.value_actual (finished place (notes.old, judged (spec.formal_suits formal.now) part.now))) result notes.new }
+    requires { OnKept IsSoundAsked part.now }
+    ensures found { Finds (spec.value_actual (finished place (notes.old, judged (spec.formal_suits formal.now) part.now))) result notes.new }
+    ensures sound { IfOk result IsSoundActual }
 {
     let part = suiting_part(formal, part);
     close(place, &part, notes)?;
@@ -95,7 +105,8 @@ fn generic_value(
     notes: &mut Notes,
 ) -> Result<Actual, AllocError>
     requires { IsSoundScope scope.now }
-    ensures { Finds (spec.generic_value names.now scope.now formal.now place expr.now notes.old) result notes.new }
+    ensures found { Finds (spec.generic_value names.now scope.now formal.now place expr.now notes.old) result notes.new }
+    ensures sound { IfOk result IsSoundActual }
 {
     match static_part(alloc, names, scope, expr, notes) {
         Ok(part) => value_found(place, formal, &part, notes),
@@ -115,7 +126,8 @@ fn named_generic(
     notes: &mut Notes,
 ) -> Result<Actual, AllocError>
     requires { IsSoundScope scope.now }
-    ensures { Finds (spec.object_or (spec.has_no_value (lookup scope.now name.number)) name.number (lookup scope.now name.number) (spec.generic_value names.now scope.now formal.now place expr.now notes.old) notes.old) result notes.new }
+    ensures found { Finds (spec.object_or (spec.has_no_value (lookup scope.now name.number)) name.number (lookup scope.now name.number) (spec.generic_value names.now scope.now formal.now place expr.now notes.old) notes.old) result notes.new }
+    ensures sound { IfOk result IsSoundActual }
 {
     let thing = scope.find(name.number);
     if !has_no_value(&thing) {
@@ -138,7 +150,8 @@ pub fn generic_actual(
     notes: &mut Notes,
 ) -> Result<Actual, AllocError>
     requires { IsSoundScope scope.now }
-    ensures { Finds (spec.generic_actual names.now scope.now formal.now place expr.now (out-Expr expr.now) notes.old) result notes.new }
+    ensures found { Finds (spec.generic_actual names.now scope.now formal.now place expr.now (out-Expr expr.now) notes.old) result notes.new }
+    ensures sound { IfOk result IsSoundActual }
 {
     match expr {
         Expr::Name(name) => named_generic(alloc, names, scope, formal, place, *name, expr, notes),

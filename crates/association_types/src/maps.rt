@@ -1,10 +1,11 @@
 //! The maps of an instance (IEEE 1076, 11.7).
-ghost use Rattle.std.specs.Prelude.{◌≡◌, Some, None};
+ghost use Rattle.std.specs.Prelude.{◌≡◌, Some, None, IfOk};
 ghost use Rattle.unit_meaning.specs.Associations as spec;
 ghost use Rattle.unit_meaning.specs.Units.{start_of};
 ghost use Rattle.unit_index.specs.Index.{known};
 ghost use Rattle.association_types.specs.Maps.{FindsMaps, maps_of, maps_with};
 ghost use Rattle.expr_types.specs.Known.{IsSoundScope};
+ghost use Rattle.instance_matches.specs.Sound.{AreSound};
 
 use crate::associations::{generic_associations, port_associations};
 use ams_token::Names;
@@ -46,7 +47,8 @@ fn read_maps(
     notes: &mut Notes,
 ) -> Result<InstanceMaps, AllocError>
     requires { IsSoundScope scope.now }
-    ensures { FindsMaps (maps_with names.now start.now scope.now generics.now ports.now instance.now notes.old) result notes.new }
+    ensures found { FindsMaps (maps_with names.now start.now scope.now generics.now ports.now instance.now notes.old) result notes.new }
+    ensures sound { IfOk result (λ maps. AreSound maps.generics) }
 {
     let all = list_or(&instance.generics);
     let first = Held::new(generic_associations(alloc, names, scope, generics, all, notes)?);
@@ -68,7 +70,8 @@ fn maps_of_entity(
     notes: &mut Notes,
 ) -> Result<InstanceMaps, AllocError>
     requires { IsSoundScope scope.now }
-    ensures { FindsMaps (maps_of names.now (start_of names.now) start.now scope.now (Some entity.now) instance.now notes.old) result notes.new }
+    ensures found { FindsMaps (maps_of names.now (start_of names.now) start.now scope.now (Some entity.now) instance.now notes.old) result notes.new }
+    ensures sound { IfOk result (λ maps. AreSound maps.generics) }
 {
     let generics = generic_formals(alloc, names, entity)?;
     let ports = port_formals(alloc, entity)?;
@@ -87,7 +90,8 @@ fn maps_of_none(
     notes: &mut Notes,
 ) -> Result<InstanceMaps, AllocError>
     requires { IsSoundScope scope.now }
-    ensures { FindsMaps (maps_of names.now (start_of names.now) start.now scope.now None instance.now notes.old) result notes.new }
+    ensures found { FindsMaps (maps_of names.now (start_of names.now) start.now scope.now None instance.now notes.old) result notes.new }
+    ensures sound { IfOk result (λ maps. AreSound maps.generics) }
 {
     let generics = GenericFormals::new(alloc, Items::new(alloc))?;
     let ports = PortFormals::new(alloc, Items::new(alloc))?;
@@ -108,7 +112,8 @@ pub fn instance_maps(
 ) -> Result<InstanceMaps, AllocError>
     requires start { start.now ≡ start_of names.now }
     requires scope { IsSoundScope scope.now }
-    ensures { FindsMaps (spec.instance_maps names.now start.now (known units.now) scope.now instance.now notes.old) result notes.new }
+    ensures found { FindsMaps (spec.instance_maps names.now start.now (known units.now) scope.now instance.now notes.old) result notes.new }
+    ensures sound { IfOk result (λ maps. AreSound maps.generics) }
 {
     match units.entity(instance.entity.number) {
         Some(entity) => maps_of_entity(alloc, names, start, scope, entity, instance, notes),

@@ -4,5 +4,9 @@ use Rattle.association_types.proofs.associations.generic_associations.Goals as g
 
 pub loop-at-preserved : goal.loop-at-preserved
 loop-at-preserved c =
-    step (rules.generic_rule c.args.names.now c.args.scope.now) c.args.formals.now c.args.all.now c.loop-at.at c.index-all-at.result c.loop-at.notes c.add_generic.new.notes c.loop-at.list c.add_generic.new.list _
-    c.loop-at-test.true c.index-all-at.is c.in_ok-add_generic.ensures c.loop-at.invariant
+    record {
+      told =
+          step (rules.generic_rule c.args.names.now c.args.scope.now) c.args.formals.now c.args.all.now c.loop-at.at c.index-all-at.result c.loop-at.notes c.add_generic.new.notes c.loop-at.list c.add_generic.new.list _
+          c.loop-at-test.true c.index-all-at.is c.in_ok-add_generic.ensures.ok c.loop-at.invariant.told;
+      sound = c.in_ok-add_generic.ensures.sound;
+    }

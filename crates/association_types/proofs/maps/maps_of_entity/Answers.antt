@@ -6,10 +6,10 @@ use Rattle.unit_meaning.specs.Units.{start_of}
 use Rattle.association_types.specs.Maps.{FindsMaps, maps_with}
 use Rattle.association_types.proofs.maps.maps_of_entity.Goals as goal
 
-pub returns : goal.returns
-returns c =
+pub returns-clause-found : goal.returns-clause-found
+returns-clause-found c =
     let with_formals =
     λ (generics : List (ℕ × Option Subtype)) (ports : List (ℕ × Option Name)).
     FindsMaps (maps_with c.args.names.now c.args.start.now c.args.scope.now generics ports c.args.instance.now c.args.notes.now) c.read_maps.result c.read_maps.new.notes in
     subst (with_formals (generic_formals c.args.names.now (start_of c.args.names.now) (Some c.args.entity.now))) c.in_ok-ports.ensures
-    (subst (λ generics. with_formals generics c.in_ok-ports.ports) c.in_ok-generics.ensures c.read_maps.ensures)
+    (subst (λ generics. with_formals generics c.in_ok-ports.ports) c.in_ok-generics.ensures c.read_maps.ensures.found)
