@@ -127,7 +127,7 @@ whole_known : (m : Result ℤ ValFault) → OnKnown (λ w. and_then (λ i. Ok (v
 whole_known (Ok i) = refl
 whole_known (Err f) = tt
 
-function_known : (f : Function) (v : Val) → OnKnown (λ w. called f v ≡ Ok w) (static.call_of f v)
+pub function_known : (f : Function) (v : Val) → OnKnown (λ w. called f v ≡ Ok w) (static.call_of f v)
 function_known function.Real (val.Int i) = refl
 function_known function.Integer (val.Real r) = whole_known (integer_of r)
 function_known function.Exp (val.Real r) = number_known (exp_of r)
@@ -166,7 +166,7 @@ place_known d length content left i =
     subst (λ (p : ℤ). OnKnown (λ w. bit_at length content p ≡ Ok w) (static.bit_of length content (static.places_by d left i))) (same_places d left i)
     (bit_known length content (static.places_by d left i))
 
-element_known_of : (range : IndexRange) (v i : Val) → OnKnown (λ w. element range v i ≡ Ok w) (static.element_of range v (Known i))
+pub element_known_of : (range : IndexRange) (v i : Val) → OnKnown (λ w. element range v i ≡ Ok w) (static.element_of range v (Known i))
 element_known_of range (val.Bits length content) (val.Int i) = place_known range.direction length content (pos range.left) i
 element_known_of range _ _ = tt
 

@@ -34,7 +34,8 @@ room_before objects a b g room =
     let m = room.threshold_limit_kept in
     record { dots = omega arith; dot_limit = omega arith; thresholds = omega arith; threshold_limit_kept = omega arith }
 
-typing_closed : (objects : flat.Scope) (Sees : ℕ → Type 0) (texts : List (List ℕ)) (scope : Scope) → ScopeFits objects Sees scope → IsClosed texts scope (HasRoom objects) (IsRead objects Sees)
+-- each step of reading keeps it
+pub typing_closed : (objects : flat.Scope) (Sees : ℕ → Type 0) (texts : List (List ℕ)) (scope : Scope) → ScopeFits objects Sees scope → IsClosed texts scope (HasRoom objects) (IsRead objects Sees)
 typing_closed objects Sees texts scope fits =
     record {
       down = room_before objects;
