@@ -1,4 +1,4 @@
--- The equations of a branch can be evaluated, and have their asked places.
+-- The equations of a branch can be evaluated, and are prepared.
 use Rattle.std.specs.List.{All}
 use Rattle.std.proofs.lemmas.List.Elements.{All-cons, All-nil, All-head, All-tail}
 use Rattle.std.proofs.Common.{◌≡◌, ◌<◌, ℕ, zero, suc, List, [], ◌∷◌, ◌++◌, length, map, get_or, refl, arith}
@@ -13,41 +13,41 @@ use Rattle.flat_design.specs.declared.objects.Equation.TheVariants as equation
 use Rattle.design_meaning.specs.Readings.{Readings}
 use Rattle.design_meaning.specs.Equations.{if_branch, case_branch, branch_of}
 use Rattle.design_rules.specs.Branches.{branch_count}
-use Rattle.read_unknowns.specs.Asked.{asked_each, asked_in}
+use Rattle.prepared_pairs.specs.Prepared.{prepared_each, prepared_in}
 use Rattle.equation_values.specs.Evaluable.{CanEvaluatePair, CanEvaluateIfArm, CanEvaluateCaseArm, CanEvaluateSelection, CanEvaluateEquation}
 use Rattle.equation_rows.specs.Parts.{pairs_of}
 
--- ---- the asked places of a branch
+-- ---- what is prepared of a branch
 
 if_places : (us : List Unknown) (arms : List IfArm) (last : List Pair) (b : ℕ) → b < suc (length arms)
-    → get_or (map (λ (arm : IfArm). asked_each us arm.pairs) arms ++ asked_each us last ∷ []) b [] ≡ asked_each us (if_branch arms last b)
+    → get_or (map (λ (arm : IfArm). prepared_each us arm.pairs) arms ++ prepared_each us last ∷ []) b [] ≡ prepared_each us (if_branch arms last b)
 if_places us [] last zero h = refl
 if_places us [] last (suc b) h = absurd (omega arith)
 if_places us (x ∷ more) last zero h = refl
 if_places us (x ∷ more) last (suc b) h = if_places us more last b (omega arith)
 
-case_places : (us : List Unknown) (arms : List CaseArm) (b : ℕ) → b < length arms → get_or (map (λ (arm : CaseArm). asked_each us arm.pairs) arms) b [] ≡ asked_each us (case_branch arms b)
+case_places : (us : List Unknown) (arms : List CaseArm) (b : ℕ) → b < length arms → get_or (map (λ (arm : CaseArm). prepared_each us arm.pairs) arms) b [] ≡ prepared_each us (case_branch arms b)
 case_places us [] b h = absurd (omega arith)
 case_places us (x ∷ more) zero h = refl
 case_places us (x ∷ more) (suc b) h = case_places us more b (omega arith)
 
-pub branch_places : (us : List Unknown) (c : Selection) (b : ℕ) → b < branch_count c → get_or (asked_in us c) b [] ≡ asked_each us (branch_of c b)
+pub branch_places : (us : List Unknown) (c : Selection) (b : ℕ) → b < branch_count c → get_or (prepared_in us c) b [] ≡ prepared_each us (branch_of c b)
 branch_places us (selection.If arms last) b h = if_places us arms last b h
 branch_places us (selection.Case e arms) b h = case_places us arms b h
 
--- there are places for each branch
+-- each branch is prepared
 if_within : (us : List Unknown) (arms : List IfArm) (last : List Pair) (b : ℕ) → b < suc (length arms)
-    → b < length (map (λ (arm : IfArm). asked_each us arm.pairs) arms ++ asked_each us last ∷ [])
+    → b < length (map (λ (arm : IfArm). prepared_each us arm.pairs) arms ++ prepared_each us last ∷ [])
 if_within us [] last b h = h
 if_within us (x ∷ more) last zero h = omega arith
 if_within us (x ∷ more) last (suc b) h = let low = if_within us more last b (omega arith) in omega (arith, low)
 
-case_within : (us : List Unknown) (arms : List CaseArm) (b : ℕ) → b < length arms → b < length (map (λ (arm : CaseArm). asked_each us arm.pairs) arms)
+case_within : (us : List Unknown) (arms : List CaseArm) (b : ℕ) → b < length arms → b < length (map (λ (arm : CaseArm). prepared_each us arm.pairs) arms)
 case_within us [] b h = h
 case_within us (x ∷ more) zero h = omega arith
 case_within us (x ∷ more) (suc b) h = let low = case_within us more b (omega arith) in omega (arith, low)
 
-pub branch_within : (us : List Unknown) (c : Selection) (b : ℕ) → b < branch_count c → b < length (asked_in us c)
+pub branch_within : (us : List Unknown) (c : Selection) (b : ℕ) → b < branch_count c → b < length (prepared_in us c)
 branch_within us (selection.If arms last) b h = if_within us arms last b h
 branch_within us (selection.Case e arms) b h = case_within us arms b h
 

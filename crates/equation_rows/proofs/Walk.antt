@@ -13,7 +13,7 @@ use Rattle.flat_design.specs.declared.objects.Equation.TheVariants as equation
 use Rattle.design_meaning.specs.Readings.{Readings}
 use Rattle.design_meaning.specs.Equations.{Row, row_of, chosen_pairs}
 use Rattle.design_rules.specs.Rows.{AreBranches}
-use Rattle.read_unknowns.specs.Asked.{asked_each, asked_by_branch}
+use Rattle.prepared_pairs.specs.Prepared.{Content, prepared_each, prepared_by_branch}
 use Rattle.equation_values.specs.Evaluable.{CanEvaluatePair, CanEvaluateEquation}
 use Rattle.equation_values.proofs.Segments.{parts_written, parts_stop, joined_end}
 use Rattle.equation_rows.specs.Parts.{pairs_of, choices_in, branch_in}
@@ -24,8 +24,8 @@ pub record Next (x : Equation) (more : List Equation) (bs : List ℕ) (k : ℕ) 
   pub within : k + choices_in x ≤ length bs
   pub split : chosen_pairs (x ∷ more) (drop k bs) ≡ pairs_of x (branch_in x bs k) ++ chosen_pairs more (drop (k + choices_in x) bs)
   pub later : AreBranches more (drop (k + choices_in x) bs)
-  pub stands : (us : List Unknown) → branch_in x bs k < length (asked_by_branch us x)
-  pub asked : (us : List Unknown) → get_or (asked_by_branch us x) (branch_in x bs k) [] ≡ asked_each us (pairs_of x (branch_in x bs k))
+  pub stands : (us : List Unknown) → branch_in x bs k < length (prepared_by_branch us x)
+  pub asked : (us : List Unknown) → get_or (prepared_by_branch us x) (branch_in x bs k) [] ≡ prepared_each us (pairs_of x (branch_in x bs k))
 
 -- there is a branch for a choice
 branch_left : (c : Choice) (more : List Equation) (bs : List ℕ) (k : ℕ) → AreBranches (equation.Choice c ∷ more) (drop k bs) → k < length bs
@@ -108,19 +108,19 @@ pub next_evaluable : (r : Readings) (xs : List Equation) (i : ℕ) (x : Equation
 next_evaluable r xs i x b pairs can lt is e =
     subst (All (CanEvaluatePair r)) (sym e) (pairs_evaluable r x b (subst (CanEvaluateEquation r) (sym is) (All-get_or (CanEvaluateEquation r) xs i x lt can)))
 
-own_places : (us : List Unknown) (xs : List Equation) (i : ℕ) (x : Equation) (places : List (List (List (List ℕ)))) (own : List (List (List ℕ))) → i < length xs → x ≡ get_or xs i x → places ≡ map (asked_by_branch us) xs → own ≡ get_or places i own → own ≡ asked_by_branch us x
+own_places : (us : List Unknown) (xs : List Equation) (i : ℕ) (x : Equation) (places : List (List (List Content))) (own : List (List Content)) → i < length xs → x ≡ get_or xs i x → places ≡ map (prepared_by_branch us) xs → own ≡ get_or places i own → own ≡ prepared_by_branch us x
 own_places us xs i x places own lt is e at =
-    at ∙ ap (λ l. get_or l i own) e ∙ get_or-map (asked_by_branch us) xs i x own lt ∙ ap (asked_by_branch us) (sym is)
+    at ∙ ap (λ l. get_or l i own) e ∙ get_or-map (prepared_by_branch us) xs i x own lt ∙ ap (prepared_by_branch us) (sym is)
 
-pub next_stands : (us : List Unknown) (xs : List Equation) (bs : List ℕ) (i k : ℕ) (x : Equation) (b : ℕ) (places : List (List (List (List ℕ)))) (own : List (List (List ℕ))) → i < length xs → x ≡ get_or xs i x → Next x (drop (i + 1) xs) bs k
-    → b ≡ branch_in x bs k → places ≡ map (asked_by_branch us) xs → own ≡ get_or places i own → b < length own
+pub next_stands : (us : List Unknown) (xs : List Equation) (bs : List ℕ) (i k : ℕ) (x : Equation) (b : ℕ) (places : List (List (List Content))) (own : List (List Content)) → i < length xs → x ≡ get_or xs i x → Next x (drop (i + 1) xs) bs k
+    → b ≡ branch_in x bs k → places ≡ map (prepared_by_branch us) xs → own ≡ get_or places i own → b < length own
 next_stands us xs bs i k x b places own lt is h e all at =
     let low = h.stands us in
     let long = ap length (own_places us xs i x places own lt is all at) in
     omega (arith, low, long, e)
 
-pub next_asked : (us : List Unknown) (xs : List Equation) (bs : List ℕ) (i k : ℕ) (x : Equation) (b : ℕ) (pairs : List Pair) (places : List (List (List (List ℕ)))) (own : List (List (List ℕ))) (asked : List (List ℕ)) → i < length xs → x ≡ get_or xs i x
-    → Next x (drop (i + 1) xs) bs k → b ≡ branch_in x bs k → pairs ≡ pairs_of x b → places ≡ map (asked_by_branch us) xs → own ≡ get_or places i own → asked ≡ get_or own b [] → asked ≡ asked_each us pairs
+pub next_asked : (us : List Unknown) (xs : List Equation) (bs : List ℕ) (i k : ℕ) (x : Equation) (b : ℕ) (pairs : List Pair) (places : List (List (List Content))) (own : List (List Content)) (asked : List Content) → i < length xs → x ≡ get_or xs i x
+    → Next x (drop (i + 1) xs) bs k → b ≡ branch_in x bs k → pairs ≡ pairs_of x b → places ≡ map (prepared_by_branch us) xs → own ≡ get_or places i own → asked ≡ get_or own b [] → asked ≡ prepared_each us pairs
 next_asked us xs bs i k x b pairs places own asked lt is h e ps all at found =
-    found ∙ ap (λ l. get_or l b []) (own_places us xs i x places own lt is all at) ∙ ap (λ n. get_or (asked_by_branch us x) n []) e ∙ h.asked us
-    ∙ ap (λ n. asked_each us (pairs_of x n)) (sym e) ∙ ap (asked_each us) (sym ps)
+    found ∙ ap (λ l. get_or l b []) (own_places us xs i x places own lt is all at) ∙ ap (λ n. get_or (prepared_by_branch us x) n []) e ∙ h.asked us
+    ∙ ap (λ n. prepared_each us (pairs_of x n)) (sym e) ∙ ap (prepared_each us) (sym ps)

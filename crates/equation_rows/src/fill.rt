@@ -5,25 +5,24 @@ ghost use Rattle.fix_core.specs.Passes.{each, answer, joined};
 ghost use Rattle.design_meaning.specs.Equations.{row_of, chosen_pairs};
 ghost use Rattle.design_meaning.specs.Newton.{linear_row};
 ghost use Rattle.design_rules.specs.Rows.{AreBranches};
-ghost use Rattle.read_unknowns.specs.Asked.{asked_by_branch};
+ghost use Rattle.prepared_pairs.specs.Prepared.{prepared_by_branch};
 ghost use Rattle.equation_values.specs.Evaluable.{CanEvaluateEquation};
 ghost use Rattle.equation_values.specs.Reading.{readings_in};
 
-use crate::parts::{branch_in, branch_places, choices_in, equation_pairs};
+use crate::parts::{branch_in, branch_prepared, choices_in, equation_pairs};
 use design_meaning::EvalFault;
 use equation_values::EquationValues;
 use explicit_rows::fill_pairs;
 use flat_design::Equation;
 use flat_expr::Unknown;
-use read_unknowns::Places;
+use prepared_pairs::PreparedPair;
 use sparse_rows::SparseRows;
 use sqlite_items::Items;
 
-/// Writes the rows of equations with their branches, from a row on, or answers the first fault. A row is asked for slopes at
-/// its places alone.
+/// Writes the rows of equations with their branches, which are prepared so, from a row on, or answers the first fault.
 pub fn fill_equations(
     equations: &[Equation],
-    places: &[Items<Items<Places>>],
+    prepared: &[Items<Items<PreparedPair>>],
     branches: &[u32],
     unknowns: &[Unknown],
     values: &EquationValues<'_>,
@@ -31,7 +30,7 @@ pub fn fill_equations(
     first: usize,
 ) -> Result<(), EvalFault>
     requires evaluable { All (CanEvaluateEquation (readings_in values.now)) equations.now }
-    requires places { places.now ≡ map (asked_by_branch unknowns.now) equations.now }
+    requires prepared { prepared.now ≡ map (prepared_by_branch unknowns.now) equations.now }
     requires branches { AreBranches equations.now branches.now }
     requires size { length unknowns.now ≡ length rows.old }
     requires room { first + length (chosen_pairs equations.now branches.now) ≤ length rows.old }
@@ -44,8 +43,8 @@ pub fn fill_equations(
         let equation = &equations[i];
         let branch = branch_in(equation, branches, choice);
         let pairs = equation_pairs(equation, branch);
-        let asked = branch_places(places[i].as_slice(), branch);
-        fill_pairs(pairs, asked, unknowns, values, rows, row)?;
+        let own = branch_prepared(prepared[i].as_slice(), branch);
+        fill_pairs(pairs, own, unknowns, values, rows, row)?;
         row += pairs.len();
         choice += choices_in(equation);
     }

@@ -4,7 +4,7 @@ ghost use Rattle.equation_rows.specs.Parts.{pairs_of, choices_in, branch_in};
 
 use explicit_rows::branch_pairs;
 use flat_design::{Equation, Pair};
-use read_unknowns::Places;
+use prepared_pairs::PreparedPair;
 use sqlite_items::Items;
 use std::slice;
 
@@ -39,8 +39,8 @@ pub fn equation_pairs(equation: &Equation, branch: u32) -> &[Pair]
     }
 }
 
-/// The asked places of the equations of a branch.
-pub fn branch_places(own: &[Items<Places>], branch: u32) -> &[Places]
+/// What is prepared of the equations of a branch.
+pub fn branch_prepared(own: &[Items<PreparedPair>], branch: u32) -> &[PreparedPair]
     requires { branch < length own.now }
     ensures { result.now ≡ slice_index_or own.now branch [] }
 {

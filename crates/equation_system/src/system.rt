@@ -25,19 +25,19 @@ use fix_core::{Fix, Tick};
 use flat_design::Flat;
 use flat_expr::Unknown;
 use newton_rounds::of_evaluation;
-use read_unknowns::{Places, places_by_branch};
+use prepared_pairs::{PreparedPair, prepare_branches};
 use sparse_rows::SparseRows;
 use sqlite_items::Items;
 use std::alloc::{AllocError, Global};
 use std::marker::Model;
 use step_data::{Cause, ChooseKind, Element, Frame};
 
-/// A design with what its equation sets need: the places at which the explicit equations are asked for slopes, and the rows
-/// of the structural set. Contracts see the design's lists.
+/// A design with what its equation sets need: the explicit equations, prepared for their rows, and the rows of the structural
+/// set. Contracts see the design's lists.
 #[derive(Drop)]
 pub struct EquationSystem<'a> {
     reader: EquationReader<'a>,
-    places: Items<Items<Items<Places>>>,
+    pairs: Items<Items<Items<PreparedPair>>>,
     common: CommonRows<'a>,
 }
 
@@ -53,7 +53,7 @@ impl<'a> Model for EquationSystem<'a> {
 
     ghost view = { λ a. a.reader };
 
-    ghost invariant = { λ a. IsPrepared a.reader a.places a.common };
+    ghost invariant = { λ a. IsPrepared a.reader a.pairs a.common };
 }
 
 impl<'a> EquationSystem<'a> {
@@ -64,10 +64,10 @@ impl<'a> EquationSystem<'a> {
     {
         let reader = EquationReader::new(alloc, flat)?;
         let common = CommonRows::new(alloc, flat)?;
-        let places = places_by_branch(alloc, flat.equations(), common.unknowns())?;
+        let pairs = prepare_branches(alloc, flat.equations(), common.unknowns())?;
         Ok(EquationSystem {
             reader,
-            places,
+            pairs,
             common,
         })
     }
@@ -126,17 +126,9 @@ impl<'a> EquationSystem<'a> {
         let flat = self.flat();
         let dots = flat.unknown_count() - flat.dots().len();
         let common = dots - self.common.len();
-        let places = self.places.as_slice();
+        let pairs = self.pairs.as_slice();
         let unknowns = self.common.unknowns();
-        fill_equations(
-            flat.equations(),
-            places,
-            branches,
-            unknowns,
-            values,
-            rows,
-            0,
-        )?;
+        fill_equations(flat.equations(), pairs, branches, unknowns, values, rows, 0)?;
         self.common.fill(values, rows, common)?;
         fill_augmentations(set, elements, flat, values, rows, dots)
     }

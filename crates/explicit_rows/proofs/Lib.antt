@@ -1,3 +1,4 @@
+pub mod Constants
 pub mod Slopes
 pub mod Filled
 pub mod Branches

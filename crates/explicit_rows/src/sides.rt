@@ -1,10 +1,11 @@
 //! The residual of an equation, and its slopes.
-ghost use Rattle.std.specs.Prelude.{◌≡◌};
+ghost use Rattle.std.specs.Prelude.{◌≡◌, IsOk};
 ghost use Rattle.design_meaning.specs.Value.{number_of, value_of};
 ghost use Rattle.design_meaning.specs.Equations.{row_of, residual_of, row_slope};
 ghost use Rattle.expr_eval.specs.Condition.{CanEvaluate};
 ghost use Rattle.equation_values.specs.Evaluable.{CanEvaluatePair};
 ghost use Rattle.equation_values.specs.Reading.{readings_in};
+ghost use Rattle.prepared_pairs.specs.Prepared.{constant_in_row};
 
 use design_meaning::EvalFault;
 use equation_values::EquationValues;
@@ -36,15 +37,29 @@ pub fn pair_residual(pair: &Pair, values: &EquationValues<'_>) -> Result<Fix, Ev
 }
 
 /// The slope of the left side less that of the right one.
-pub fn pair_slope(
-    pair: &Pair,
-    unknown: Unknown,
-    values: &EquationValues<'_>,
-) -> Result<Fix, EvalFault>
+fn pair_slope(pair: &Pair, unknown: Unknown, values: &EquationValues<'_>) -> Result<Fix, EvalFault>
     requires { CanEvaluatePair (readings_in values.now) pair.now }
     ensures { result ≡ row_slope (row_of pair.now) (readings_in values.now) unknown }
 {
     let left = slope(&pair.left, unknown, values)?;
     let right = slope(&pair.right, unknown, values)?;
     number(left.sub(right))
+}
+
+/// The slope of an equation that has a residual, by its constant slope where it has one.
+pub fn constant_or_slope(
+    pair: &Pair,
+    constant: Option<Fix>,
+    unknown: Unknown,
+    values: &EquationValues<'_>,
+) -> Result<Fix, EvalFault>
+    requires evaluable { CanEvaluatePair (readings_in values.now) pair.now }
+    requires constant { constant ≡ constant_in_row pair.now unknown }
+    requires residual { IsOk (residual_of (row_of pair.now) (readings_in values.now)) }
+    ensures { result ≡ row_slope (row_of pair.now) (readings_in values.now) unknown }
+{
+    match constant {
+        Some(slope) => Ok(slope),
+        None => pair_slope(pair, unknown, values),
+    }
 }

@@ -1,14 +1,14 @@
 -- The slopes by unknowns that an expression doesn't read, by induction on the expression.
 use Rattle.std.proofs.Common.{◌≡◌, ◌+◌, ◌*◌, ◌<◌, ℕ, zero, suc, pos, negsuc, ℤ, Bool, true, false, Result, Ok, Err, IfOk, refl, sym, ap, subst, ◌∙◌, arith}
-use Rattle.std.specs.Prelude.{◌||◌, ◌*ℤ◌, ◌+ℤ◌, ◌-ℤ◌, neg_ℤ, unsigned_abs, nat_eq, if◌then◌else◌}
+use Rattle.std.specs.Prelude.{◌||◌, ◌*ℤ◌, ◌+ℤ◌, neg_ℤ, unsigned_abs, nat_eq, if◌then◌else◌}
 use Rattle.std.proofs.lemmas.Int.{ints}
 use Rattle.std.proofs.Math.Nat.{div-eq_of_lt}
 use Rattle.fix_core.specs.declared.NumFault.{NumFault}
 use Rattle.fix_core.specs.Passes.{and_then, ◌>>=◌}
 use Rattle.fix_core.specs.Rounding.{nearest, rnd}
-use Rattle.fix_core.specs.Units.{one, most_units}
+use Rattle.fix_core.specs.Units.{one}
 use Rattle.fix_core.specs.Fixed.{ranged, sum_of, difference_of, product_of, quotient_of}
-use Rattle.fix_core.specs.Laws.{ranged-fits, rnd_is, quotient_ranged, quotient_by_zero}
+use Rattle.fix_core.specs.Laws.{ranged-fits}
 use Rattle.math_fix.specs.Functions.{sin_of, cos_of}
 use Rattle.ams_value.specs.declared.val.Val.{Val}
 use Rattle.ams_value.specs.declared.val.Val.TheVariants as val
@@ -24,14 +24,11 @@ use Rattle.flat_expr.specs.declared.expr.FlatExpr.{FlatExpr}
 use Rattle.flat_expr.specs.declared.expr.FlatExpr.TheViews.{roll-FlatExpr}
 use Rattle.flat_expr.specs.declared.expr.FlatExpr.TheOpen.{FlatExpr-F}
 use Rattle.flat_expr.specs.declared.expr.FlatExpr.TheFolds.{map-FlatExpr, fold-roll-FlatExpr, ind-FlatExpr}
-use Rattle.flat_design.specs.declared.objects.Pair.{Pair}
 use Rattle.design_meaning.specs.declared.fault.EvalFault.{EvalFault}
 use Rattle.design_meaning.specs.Faults.{numeric}
 use Rattle.design_meaning.specs.Readings.{Readings}
 use Rattle.design_meaning.specs.Value.{Meaning, meaning_at, meaning_of, slope_of, number_of, value_at, plus, minus, times, over, same_unknown, is_negative, unary_slope, power_slope, binary_slope, called_slope}
-use Rattle.design_meaning.specs.Equations.{row_of, row_slope}
 use Rattle.design_rules.specs.Equations.{stands_at, stands_in}
-use Rattle.read_unknowns.specs.Asked.{stands_on}
 use Rattle.read_unknowns.specs.Unread.{AreAlike, UnreadSlopesAreAlike}
 
 -- ---- slopes that are 0

@@ -1,5 +1,5 @@
 -- The slopes by unknowns that an equation doesn't read.
-use Rattle.std.specs.Prelude.{◌≡◌, Bool, false, ℤ, pos, Result, IfOk}
+use Rattle.std.specs.Prelude.{◌≡◌, false, ℤ, pos, Result, IfOk}
 use Rattle.flat_expr.specs.declared.expr.Unknown.{Unknown}
 use Rattle.flat_design.specs.declared.objects.Pair.{Pair}
 use Rattle.design_meaning.specs.declared.fault.EvalFault.{EvalFault}

@@ -4,5 +4,5 @@
 mod asked;
 mod stands;
 
-pub use asked::{Places, asked_places, places_by_branch};
+pub use asked::{Places, asked_places};
 pub use stands::{stands_in, unread_slopes_are_alike};

@@ -27,14 +27,14 @@ signals_fit a b c t (name.Signal (suc (suc n))) k h = absurd (cc)
 signals_fit a b c t (name.Threshold n) k h = no_threshold n k h
 signals_fit a b c t name.Domain k h = record { kind_is = cc; range = refl }
 
-pub typed_is_evaluable : (a b c : ℤ) (t : ℕ) (e : FlatExpr) → t ≤ most_ticks → typed rows_scope e ≡ Some Real → CanEvaluate (readings_at a b c t) e
-typed_is_evaluable a b c t e late h =
+pub typed_is_evaluable : (a b c : ℤ) (t : ℕ) (e : FlatExpr) (k : ValueType) → t ≤ most_ticks → typed rows_scope e ≡ Some k → CanEvaluate (readings_at a b c t) e
+typed_is_evaluable a b c t e k late h =
     record {
       scope = rows_scope;
-      kind = Real;
+      kind = k;
       typed = h;
       reads = record {
-        signals = λ s k on known. signals_fit a b c t s k known;
+        signals = λ s kind on known. signals_fit a b c t s kind known;
         variables = refl;
         variables_range = λ i d g. absurd (omega (arith, g));
         now = late;

@@ -11,12 +11,12 @@ pub fill_pairs-requires-clause-evaluable : goal.fill_pairs-requires-clause-evalu
 fill_pairs-requires-clause-evaluable c =
     next_evaluable (readings_in c.args.values.now) c.args.equations.now c.loop-i.i c.index-equations-i.result c.branch_in-branch.result c.equation_pairs-pairs.result.now c.requires.evaluable c.loop-i-test.true c.index-equations-i.is c.equation_pairs-pairs.ensures
 
-pub fill_pairs-requires-clause-places : goal.fill_pairs-requires-clause-places
-fill_pairs-requires-clause-places c =
+pub fill_pairs-requires-clause-prepared : goal.fill_pairs-requires-clause-prepared
+fill_pairs-requires-clause-prepared c =
     let next = next_at c.args.equations.now c.args.branches.now c.loop-i.i c.loop-i.choice c.index-equations-i.result c.loop-i-test.true c.index-equations-i.is c.loop-i.invariant.within c.loop-i.invariant.later in
-    next_asked c.args.unknowns.now c.args.equations.now c.args.branches.now c.loop-i.i c.loop-i.choice c.index-equations-i.result c.branch_in-branch.result c.equation_pairs-pairs.result.now c.args.places.now c.index-places-i.result c.branch_places-asked.result.now
-    c.loop-i-test.true c.index-equations-i.is next c.branch_in-branch.ensures c.equation_pairs-pairs.ensures c.requires.places c.index-places-i.is
-    (c.branch_places-asked.ensures ∙ ap (λ l. get_or l c.branch_in-branch.result []) c.as_slice.ensures)
+    next_asked c.args.unknowns.now c.args.equations.now c.args.branches.now c.loop-i.i c.loop-i.choice c.index-equations-i.result c.branch_in-branch.result c.equation_pairs-pairs.result.now c.args.prepared.now c.index-prepared-i.result c.branch_prepared-own.result.now
+    c.loop-i-test.true c.index-equations-i.is next c.branch_in-branch.ensures c.equation_pairs-pairs.ensures c.requires.prepared c.index-prepared-i.is
+    (c.branch_prepared-own.ensures ∙ ap (λ l. get_or l c.branch_in-branch.result []) c.as_slice.ensures)
 
 pub returns-in_err-fill_pairs-clause-answer : goal.returns-in_err-fill_pairs-clause-answer
 returns-in_err-fill_pairs-clause-answer c =

@@ -1,4 +1,4 @@
-use Rattle.std.proofs.Common.{rules, ◌≡◌, ◌+◌, Err, length, map, take, sym, ap, ◌∙◌, arith}
+use Rattle.std.proofs.Common.{rules, ◌≡◌, ◌+◌, Err, map, take, ap, ◌∙◌, arith}
 use Rattle.fix_core.specs.Passes.{each, joined, answer}
 use Rattle.design_meaning.specs.Equations.{row_of}
 use Rattle.design_meaning.specs.Newton.{linear_row}

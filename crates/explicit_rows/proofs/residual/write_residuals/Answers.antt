@@ -1,4 +1,4 @@
-use Rattle.std.proofs.Common.{rules, ◌≡◌, ◌+◌, Err, length, map, take, sym, ap, ◌∙◌, arith}
+use Rattle.std.proofs.Common.{rules, ◌≡◌, ◌+◌, Err, map, take, sym, ◌∙◌, arith}
 use Rattle.fix_core.specs.Passes.{each, joined}
 use Rattle.design_meaning.specs.Equations.{row_of}
 use Rattle.equation_values.specs.Residuals.{residual_at}

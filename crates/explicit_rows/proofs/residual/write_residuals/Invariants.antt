@@ -1,4 +1,4 @@
-use Rattle.std.proofs.Common.{◌≡◌, ◌+◌, length, map, take, drop}
+use Rattle.std.proofs.Common.{◌≡◌, ◌+◌, map, take, drop}
 use Rattle.fix_core.specs.Passes.{each, joined}
 use Rattle.design_meaning.specs.Equations.{row_of}
 use Rattle.equation_values.specs.Residuals.{residual_at}
