@@ -152,7 +152,9 @@ impl<'a> EquationSystem<'a> {
         let flat = self.flat();
         let dots = flat.unknown_count() - flat.dots().len();
         let common = dots - self.common.len();
-        write_equations(flat.equations(), branches, values, out, 0)?;
+        let pairs = self.pairs.as_slice();
+        let unknowns = self.common.unknowns();
+        write_equations(flat.equations(), pairs, branches, unknowns, values, out, 0)?;
         self.common.write_residuals(values, out, common)?;
         write_augmentations(set, elements, flat, values, out, dots)
     }

@@ -113,7 +113,21 @@ impl Tape {
         ensures value { result ≡ number_of (value_of expr.now (V.readings values.now)) }
         ensures room { work.new ≡ work.old }
     {
-        let numbers = work.numbers.as_mut_slice();
+        self.value_in(expr, values, work.numbers.as_mut_slice())
+    }
+
+    /// The same value or fault, with room for a number of each instruction.
+    pub fn value_in<V: Values>(
+        &self,
+        expr: &FlatExpr,
+        values: &V,
+        numbers: &mut [Fix],
+    ) -> Result<Fix, EvalFault>
+        requires tape { self.now.code ≡ code_of expr.now }
+        requires evaluable { CanEvaluate (V.readings values.now) expr.now }
+        requires room { length self.now.code ≤ length numbers.old }
+        ensures { result ≡ number_of (value_of expr.now (V.readings values.now)) }
+    {
         match run_value(self.code.as_slice(), values, numbers) {
             Ok(number) => Ok(number),
             Err(_) => Ok(units(value(expr, values)?)),

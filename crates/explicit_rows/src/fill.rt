@@ -62,7 +62,7 @@ fn fill_pair(
     ensures answer { and_then (λ own. Ok (slice_set rows.old row own)) (linear_row unknowns.now (readings_in values.now) (row_of pair.now)) ≡ answer result rows.new }
     ensures count { length rows.new ≡ length rows.old }
 {
-    let residual = pair_residual(pair, values)?;
+    let residual = pair_residual(pair, own, values)?;
     rows.clear(row);
     write_slopes(
         pair,

@@ -5,18 +5,24 @@ ghost use Rattle.design_meaning.specs.Equations.{row_of, residual_of, row_slope}
 ghost use Rattle.expr_eval.specs.Condition.{CanEvaluate};
 ghost use Rattle.equation_values.specs.Evaluable.{CanEvaluatePair};
 ghost use Rattle.equation_values.specs.Reading.{readings_in};
+ghost use Rattle.tape_code.specs.Code.{code_of};
 ghost use Rattle.prepared_pairs.specs.Prepared.{constant_in_row};
 
 use design_meaning::EvalFault;
 use equation_values::EquationValues;
+use eval_tape::Tape;
 use expr_eval::{number, units, value};
 use fix_core::Fix;
 use flat_design::Pair;
 use flat_expr::{FlatExpr, Unknown};
+use prepared_pairs::PreparedPair;
 use slope::slope;
 
-/// The number that a side is.
-fn side(expr: &FlatExpr, values: &EquationValues<'_>) -> Result<Fix, EvalFault>
+/// The most instructions of a side that is run by its tape: for their numbers there is room on the stack.
+const MOST_INSTRUCTIONS: usize = 32;
+
+/// The number that a side is, by the expression itself.
+fn tree_side(expr: &FlatExpr, values: &EquationValues<'_>) -> Result<Fix, EvalFault>
     requires { CanEvaluate (readings_in values.now) expr.now }
     ensures { result ≡ number_of (value_of expr.now (readings_in values.now)) }
 {
@@ -26,13 +32,32 @@ fn side(expr: &FlatExpr, values: &EquationValues<'_>) -> Result<Fix, EvalFault>
     }
 }
 
+/// The number that a side is.
+fn side(expr: &FlatExpr, tape: &Tape, values: &EquationValues<'_>) -> Result<Fix, EvalFault>
+    requires evaluable { CanEvaluate (readings_in values.now) expr.now }
+    requires tape { tape.now.code ≡ code_of expr.now }
+    ensures { result ≡ number_of (value_of expr.now (readings_in values.now)) }
+{
+    if tape.len() > MOST_INSTRUCTIONS {
+        return tree_side(expr, values);
+    }
+    let mut numbers = [Fix::exactly(0); MOST_INSTRUCTIONS];
+    tape.value_in(expr, values, &mut numbers)
+}
+
 /// The left side less the right one.
-pub fn pair_residual(pair: &Pair, values: &EquationValues<'_>) -> Result<Fix, EvalFault>
-    requires { CanEvaluatePair (readings_in values.now) pair.now }
+pub fn pair_residual(
+    pair: &Pair,
+    own: &PreparedPair,
+    values: &EquationValues<'_>,
+) -> Result<Fix, EvalFault>
+    requires evaluable { CanEvaluatePair (readings_in values.now) pair.now }
+    requires left { own.now.left.code ≡ code_of pair.now.left }
+    requires right { own.now.right.code ≡ code_of pair.now.right }
     ensures { result ≡ residual_of (row_of pair.now) (readings_in values.now) }
 {
-    let left = side(&pair.left, values)?;
-    let right = side(&pair.right, values)?;
+    let left = side(&pair.left, own.left(), values)?;
+    let right = side(&pair.right, own.right(), values)?;
     number(left.sub(right))
 }
 

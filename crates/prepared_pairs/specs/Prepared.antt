@@ -12,11 +12,15 @@ use Rattle.flat_design.specs.declared.objects.Equation.{Equation}
 use Rattle.flat_design.specs.declared.objects.Equation.TheVariants as equation
 use Rattle.constant_slopes.specs.Constant.{constant_of, with_two}
 use Rattle.read_unknowns.specs.Asked.{asked_places}
+use Rattle.eval_tape.specs.Tape as tape
+use Rattle.eval_tape.specs.Tape.{tape_of}
 
--- the asked places of a row, and the constant slope at each
+-- the asked places of a row, the constant slope at each, and the tapes of both sides, for their values
 pub record Content : Type 0 where
   pub places : List ℕ
   pub constants : List (Option ℤ)
+  pub left : tape.Content
+  pub right : tape.Content
 
 -- the constant slope of an equation by an unknown, where both sides have one
 abbrev pub constant_in_row : Pair → Unknown → Option ℤ
@@ -26,7 +30,7 @@ abbrev pub constants_at : Pair → List Unknown → List ℕ → List (Option �
 constants_at p unknowns places = map (λ k. constant_in_row p (get_or unknowns k (Quantity 0))) places
 
 abbrev pub prepared : Pair → List Unknown → Content
-prepared p unknowns = record { places = asked_places p unknowns; constants = constants_at p unknowns (asked_places p unknowns) }
+prepared p unknowns = record { places = asked_places p unknowns; constants = constants_at p unknowns (asked_places p unknowns); left = tape_of p.left []; right = tape_of p.right [] }
 
 abbrev pub prepared_each : List Unknown → List Pair → List Content
 prepared_each unknowns pairs = map (λ p. prepared p unknowns) pairs

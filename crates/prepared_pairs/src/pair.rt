@@ -6,6 +6,7 @@ ghost use Rattle.constant_slopes.specs.Constant.{with_two};
 ghost use Rattle.prepared_pairs.specs.Prepared.{constant_in_row, constants_at, prepared};
 
 use constant_slopes::constant_slope;
+use eval_tape::Tape;
 use fix_core::Fix;
 use flat_design::Pair;
 use flat_expr::Unknown;
@@ -15,11 +16,13 @@ use std::alloc::{AllocError, Global};
 use std::marker::Model;
 
 /// The places at which the row of an equation is asked for a slope, rising, and the constant slope at each of them, where
-/// there is one.
+/// there is one; and the tapes of its sides.
 #[derive(Drop)]
 pub struct PreparedPair {
     places: Places,
     constants: Items<Option<Fix>>,
+    left: Tape,
+    right: Tape,
 }
 
 impl Model for PreparedPair {
@@ -27,7 +30,7 @@ impl Model for PreparedPair {
 
     ghost Value = { Content };
 
-    ghost view = { λ pair. record { places = pair.places; constants = pair.constants } };
+    ghost view = { λ pair. record { places = pair.places; constants = pair.constants; left = pair.left; right = pair.right } };
 }
 
 fn difference(left: Option<Fix>, right: Option<Fix>) -> Option<Fix>
@@ -86,7 +89,14 @@ impl PreparedPair {
     {
         let places = asked_places(alloc, pair, unknowns)?;
         let constants = constants_at(alloc, pair, unknowns, places.as_slice())?;
-        Ok(PreparedPair { places, constants })
+        let left = Tape::compile(alloc, &pair.left, &[])?;
+        let right = Tape::compile(alloc, &pair.right, &[])?;
+        Ok(PreparedPair {
+            places,
+            constants,
+            left,
+            right,
+        })
     }
 
     /// The places at which its row is asked for a slope.
@@ -94,6 +104,20 @@ impl PreparedPair {
         ensures { result.now ≡ self.now.places }
     {
         self.places.as_slice()
+    }
+
+    /// The tape of the left side, for its value.
+    pub fn left(&self) -> &Tape
+        ensures { result.now ≡ self.now.left }
+    {
+        &self.left
+    }
+
+    /// The tape of the right side, for its value.
+    pub fn right(&self) -> &Tape
+        ensures { result.now ≡ self.now.right }
+    {
+        &self.right
     }
 
     /// The constant slope at each of these places, where there is one.

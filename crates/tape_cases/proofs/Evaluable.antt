@@ -1,11 +1,10 @@
 -- A row that is typed can be evaluated.
-use Rattle.std.proofs.Common.{◌≡◌, ◌≤◌, ℕ, zero, suc, ℤ, Bool, true, false, Option, Some, None, [], ◌∷◌, refl, subst, arith}
+use Rattle.std.proofs.Common.{◌≡◌, ◌≤◌, ℕ, zero, suc, ℤ, Bool, false, Some, [], ◌∷◌, refl, subst, arith}
 use Rattle.std.specs.Prelude.{nat_lt}
 use Rattle.std.proofs.lemmas.Bool.Decides.{nat_tests}
 use Rattle.fix_core.specs.Units.{most_ticks}
-use Rattle.ams_value.specs.declared.val.Val.TheVariants as val
 use Rattle.ams_value.specs.declared.value_type.ValueType.{ValueType}
-use Rattle.ams_value.specs.declared.value_type.ValueType.TheVariants.{Boolean, Real, Integer}
+use Rattle.ams_value.specs.declared.value_type.ValueType.TheVariants.{Boolean}
 use Rattle.flat_expr.specs.declared.expr.SignalName.{SignalName}
 use Rattle.flat_expr.specs.declared.expr.SignalName.TheVariants as name
 use Rattle.flat_expr.specs.declared.expr.FlatExpr.{FlatExpr}

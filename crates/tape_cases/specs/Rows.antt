@@ -1,5 +1,5 @@
 -- What the rows read.
-use Rattle.std.specs.Prelude.{◌≡◌, ◌≤◌, ℕ, ℤ, pos, List, [], ◌∷◌}
+use Rattle.std.specs.Prelude.{ℕ, ℤ, pos, [], ◌∷◌}
 use Rattle.ams_value.specs.declared.val.Val.TheVariants as val
 use Rattle.ams_value.specs.declared.value_type.ValueType.TheVariants.{Real, Integer}
 use Rattle.design_meaning.specs.Readings.{Readings, still}

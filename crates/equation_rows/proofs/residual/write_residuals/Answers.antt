@@ -1,15 +1,22 @@
-use Rattle.std.proofs.Common.{rules, ◌≡◌, ◌+◌, Err, length, map, take, ap, ◌∙◌}
+use Rattle.std.proofs.Common.{rules, ◌≡◌, ◌+◌, Err, [], length, map, take, get_or, ap, ◌∙◌}
 use Rattle.fix_core.specs.Passes.{each, joined, answer}
 use Rattle.design_meaning.specs.Equations.{row_of, chosen_pairs}
 use Rattle.equation_values.specs.Residuals.{residual_at}
 use Rattle.equation_values.specs.Reading.{readings_in}
 use Rattle.equation_rows.specs.Parts.{pairs_of}
-use Rattle.equation_rows.proofs.Walk.{next_at, next_evaluable, walk_more, walk_stops, walk_end, ends_more}
+use Rattle.equation_rows.proofs.Walk.{next_at, next_evaluable, next_asked, walk_more, walk_stops, walk_end, ends_more}
 use Rattle.equation_rows.proofs.residual.write_residuals.Goals as goal
 
 pub write_residuals-requires-clause-evaluable : goal.write_residuals-requires-clause-evaluable
 write_residuals-requires-clause-evaluable c =
     next_evaluable (readings_in c.args.values.now) c.args.equations.now c.loop-i.i c.index-equations-i.result c.branch_in-branch.result c.equation_pairs-pairs.result.now c.requires.evaluable c.loop-i-test.true c.index-equations-i.is c.equation_pairs-pairs.ensures
+
+pub write_residuals-requires-clause-prepared : goal.write_residuals-requires-clause-prepared
+write_residuals-requires-clause-prepared c =
+    let next = next_at c.args.equations.now c.args.branches.now c.loop-i.i c.loop-i.choice c.index-equations-i.result c.loop-i-test.true c.index-equations-i.is c.loop-i.invariant.within c.loop-i.invariant.later in
+    next_asked c.args.unknowns.now c.args.equations.now c.args.branches.now c.loop-i.i c.loop-i.choice c.index-equations-i.result c.branch_in-branch.result c.equation_pairs-pairs.result.now c.args.prepared.now c.index-prepared-i.result c.branch_prepared-own.result.now
+    c.loop-i-test.true c.index-equations-i.is next c.branch_in-branch.ensures c.equation_pairs-pairs.ensures c.requires.prepared c.index-prepared-i.is
+    (c.branch_prepared-own.ensures ∙ ap (λ l. get_or l c.branch_in-branch.result []) c.as_slice.ensures)
 
 pub returns-in_err-write_residuals-clause-answer : goal.returns-in_err-write_residuals-clause-answer
 returns-in_err-write_residuals-clause-answer c =
