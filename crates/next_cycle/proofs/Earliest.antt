@@ -1,12 +1,11 @@
 -- The least of two lists of optional times.
-use Rattle.std.proofs.Common.{◌≡◌, ◌<◌, ◌≤◌, refl, ap, sym, ◌∙◌, subst, ℕ, zero, suc, min, List, [], ◌∷◌, ◌++◌, length, map, Option, Some, None, get_or, arith}
+use Rattle.std.proofs.Common.{◌≡◌, ◌<◌, ◌≤◌, refl, ap, sym, ◌∙◌, subst, ℕ, zero, suc, min, List, [], ◌∷◌, ◌++◌, length, Option, Some, None, get_or, arith}
 use Rattle.std.specs.Prelude.{IfSome}
-use Rattle.std.specs.List.{All}
 use Rattle.step_data.specs.declared.trans.Trans.{Trans}
 use Rattle.step_data.specs.Times.{earliest, earliest_of}
-use Rattle.step_model.specs.System.{ProcessState, Digital}
+use Rattle.step_model.specs.System.{Digital}
 use Rattle.driver_set.specs.Queues.{times_of}
-use Rattle.cycle_meaning.specs.Cycles.{first_time, next_time}
+use Rattle.cycle_meaning.specs.Cycles.{next_time}
 use Rattle.next_cycle.specs.Next.{timeouts_of, NoneIsEarlier, NextIsFirst}
 
 together : (a b c : Option ℕ) → earliest a (earliest b c) ≡ earliest (earliest a b) c
