@@ -1,19 +1,13 @@
 -- Signals, unknowns and DOMAIN as they are read.
-use Rattle.std.specs.Prelude.{Bool, true, nat_lt, if◌then◌else◌, ℤ, pos, List, [], ◌∷◌, length}
+use Rattle.std.specs.Prelude.{Bool, true, nat_lt, if◌then◌else◌, ℤ, pos, List, length}
 use Rattle.std.specs.List.{slice_index_or}
 use Rattle.ams_value.specs.declared.val.Val.{Val}
 use Rattle.flat_expr.specs.declared.expr.Unknown.{Unknown}
 use Rattle.flat_expr.specs.declared.expr.Unknown.TheVariants.{Quantity, Reference, Dot}
 use Rattle.flat_design.specs.declared.objects.Objects.{Objects}
 use Rattle.flat_design.specs.Order.{number_of}
-use Rattle.design_meaning.specs.Readings.{Seen}
 use Rattle.design_meaning.specs.Reading.{quiescent_domain, time_domain}
-
--- values with their events
-abbrev pub seens : List Val → List Bool → List Seen
-seens [] events = []
-seens (v ∷ values) [] = []
-seens (v ∷ values) (e ∷ events) = record { value = v; event = e } ∷ seens values events
+pub use Rattle.driving_values.specs.Driving.{seens}
 
 abbrev pub domain_value : Bool → Val
 domain_value timed = if timed then time_domain else quiescent_domain

@@ -2,7 +2,9 @@
 //! that runs.
 #![tactic(auto)]
 
+mod begin;
 mod effects;
+mod left;
 mod reading;
 mod reads;
 mod start;

@@ -4,7 +4,7 @@ ghost use Rattle.design_meaning.specs.Readings.{still};
 ghost use Rattle.design_meaning.specs.Reading.{quiescent_domain};
 ghost use Rattle.threshold_set.specs.Crossed.{sights};
 ghost use Rattle.kernel_world.specs.Reading.{seens};
-ghost use Rattle.kernel_world.specs.Sound.{IsSound};
+ghost use Rattle.kernel_world.specs.Sound.{IsSound, HasPlaces};
 ghost use Rattle.kernel_world.specs.Acting.{context_of, local_of, world_of};
 
 use crate::world::World;
@@ -30,7 +30,8 @@ impl<'a> World<'a> {
         thresholds: ThresholdSet,
         point: Point,
     ) -> World<'a>
-        requires { IsSound flat.now numbers drivers }
+        requires sound { IsSound flat.now numbers drivers }
+        requires places { HasPlaces flat.now signals.values thresholds.states thresholds.events point }
         ensures context { context_of result ≡ record { objects = flat.now; process = 0; t = 0; n = 0; x = point } }
         ensures world { world_of result ≡ record { signals = seens signals.values signals.events; thresholds = sights thresholds; domain = still quiescent_domain; queues = drivers; elements = []; broke = false; events = [] } }
         ensures variables { (local_of result).variables ≡ [] }

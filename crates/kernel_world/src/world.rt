@@ -1,5 +1,5 @@
 //! The world of the process that runs.
-ghost use Rattle.kernel_world.specs.Sound.{IsSound};
+ghost use Rattle.kernel_world.specs.Sound.{IsSound, HasPlaces};
 
 use ams_value::Val;
 use driver_set::{DriverNumbers, DriverSet};
@@ -31,4 +31,5 @@ pub struct World<'a> {
     pub(crate) point: Point,
     pub(crate) variables: Vec<Val>,
     ghost sound: { IsSound flat.now numbers drivers },
+    ghost places: { HasPlaces flat.now signals.values thresholds.states thresholds.events point },
 }

@@ -7,7 +7,7 @@ use Rattle.fix_core.specs.Laws.{at_place}
 use Rattle.step_data.specs.declared.breaks.ThresholdState.{ThresholdState}
 use Rattle.step_data.specs.declared.event.Event.TheVariants.{Cross}
 use Rattle.cycle_meaning.specs.Cycles.{event_if, crossings, is_on}
-use Rattle.threshold_set.specs.Crossed.{after, crossed, crossed_of}
+use Rattle.threshold_set.specs.Crossed.{after, crossed, crossed_of, silenced}
 use Rattle.step_data.specs.declared.event.Event.{Event}
 use Rattle.step_model.specs.Kernel.{AddsFront}
 use Rattle.threshold_set.specs.Given.{Given}
@@ -127,3 +127,9 @@ crossings_more x t n k old list first out now whole h is g one =
     given_more first out now (event_if (crossed x s).event (Cross t n k (is_on (crossed x s).value))) (crossings t n (k + 1) (crossed_of x (drop (k + 1) old))) whole
     (crossings t n k (crossed_of x (drop k old))) g (one s (read_at (after x) k old list s h e is))
     (ap (λ (l : List ThresholdState). crossings t n k (crossed_of x l)) (at_place old k s h e))
+
+-- a threshold that is written with its own unknown and level
+pub silenced_set : (list : List ThresholdState) (k : ℕ) (s : ThresholdState) (on : Bool) → slice_get list k ≡ Some s → map silenced (set list k (record s { on = on })) ≡ map silenced list
+silenced_set [] k s on e = refl
+silenced_set (x ∷ list) zero s on e = let same : x ≡ s = cc in rw same refl
+silenced_set (x ∷ list) (suc k) s on e = ap (λ l. silenced x ∷ l) (silenced_set list k s on e)

@@ -41,6 +41,10 @@ after x s = record s { on = is_above x s.unknown s.level }
 abbrev pub off : Threshold → ThresholdState
 off k = record { unknown = k.quantity; level = k.level; on = false }
 
+-- a threshold without its value
+abbrev pub silenced : ThresholdState → ThresholdState
+silenced s = record s { on = false }
+
 -- the value of a threshold signal, FALSE where there is none
 abbrev pub value_of : Option ThresholdState → Val
 value_of (Some s) = val.Bool s.on

@@ -8,7 +8,7 @@ ghost use Rattle.step_data.specs.declared.breaks.ThresholdState.{ThresholdState}
 ghost use Rattle.step_model.specs.Kernel.{AddsFront};
 ghost use Rattle.design_meaning.specs.Readings.{still};
 ghost use Rattle.cycle_meaning.specs.Cycles.{event_if, crossings, is_on};
-ghost use Rattle.threshold_set.specs.Crossed.{crossed, after, crossed_of, off, value_of, sights, ThresholdsCross};
+ghost use Rattle.threshold_set.specs.Crossed.{crossed, after, crossed_of, off, silenced, value_of, sights, ThresholdsCross};
 
 use ams_value::{Val, equal};
 use fix_core::{Fix, Tick};
@@ -106,6 +106,7 @@ fn update_one(
     ensures err { OnErr result (out.new ≡ out.old) }
     ensures counts { OnErr result (length events.new.items ≡ length events.old.items) }
     ensures places { OnErr result (length list.new ≡ length list.old) }
+    ensures same { map silenced list.new ≡ map silenced list.old }
 {
     let state = list.get(k as usize);
     let on = is_above(point, state.unknown, state.level);
@@ -132,6 +133,7 @@ fn update_all(
     ensures given { OnOk result (out.new ≡ out.old ++ crossings t n 0 (crossed_of point.now list.old)) }
     ensures front { OnErr result (AddsFront out.old out.new (crossings t n 0 (crossed_of point.now list.old))) }
     ensures lengths { length events.new.items ≡ length list.new }
+    ensures same { map silenced list.new ≡ map silenced list.old }
 {
     for k in 0..list.len() as u32 {
         update_one(list, events, k, point, t, n, out)?;
@@ -192,6 +194,8 @@ impl ThresholdSet {
         ensures events { OnOk result (self.new.events ≡ map (λ s. (crossed point.now s).event) self.old.states) }
         ensures given { OnOk result (out.new ≡ out.old ++ crossings t n 0 (crossed_of point.now self.old.states)) }
         ensures front { OnErr result (AddsFront out.old out.new (crossings t n 0 (crossed_of point.now self.old.states))) }
+        ensures lengths { length self.new.events ≡ length self.new.states }
+        ensures same { map silenced self.new.states ≡ map silenced self.old.states }
     {
         update_all(&mut self.list, &mut self.events, point, t, n, out)
     }

@@ -25,6 +25,7 @@ loop-k-preserved c =
           c.loop-k.invariant.events c.in_ok-update_one.ensures.events;
       given = crossings_more x c.args.t c.args.n c.loop-k.k old c.loop-k.list c.args.out.now c.loop-k.out c.update_one.new.out (crossings c.args.t c.args.n 0 (crossed_of x old)) h
           c.loop-k.invariant.list c.loop-k.invariant.given c.in_ok-update_one.ensures.given;
+      same = c.in_ok-update_one.ensures.same ∙ c.loop-k.invariant.same;
     }
 
 pub returns-clause-events : goal.returns-clause-events
