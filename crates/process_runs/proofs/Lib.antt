@@ -4,3 +4,4 @@ pub mod Ran
 pub mod Worlds
 pub mod Nexts
 pub mod Starts
+pub mod Sleeping

@@ -70,6 +70,12 @@ impl KeptProcess {
         self.timeout
     }
 
+    pub fn variables(&self) -> &[Val]
+        ensures { result.now ≡ self.now.variables }
+    {
+        self.variables.as_slice()
+    }
+
     /// Rests at a wait behind which the stack stands: the parameters of loops that aren't round it begin again.
     pub(crate) fn rest(&mut self, process: &Process, wait: Wait)
         requires { length self.old.variables ≡ length process.now.variables }

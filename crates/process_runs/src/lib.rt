@@ -4,8 +4,10 @@
 mod kept;
 mod one;
 mod resumed;
+mod sleep;
 mod started;
 
 pub use kept::KeptProcess;
 pub use resumed::run_processes;
+pub use sleep::waiting_processes_sleep;
 pub use started::{start_processes, unstarted};

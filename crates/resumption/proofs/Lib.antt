@@ -1,0 +1,4 @@
+pub mod Walks
+pub mod Asking
+pub mod Order
+pub mod Looking

@@ -1,0 +1,3 @@
+pub mod Sleeps
+pub mod Waits
+pub mod Waiting
