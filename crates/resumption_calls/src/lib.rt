@@ -9,7 +9,7 @@ ghost use Rattle.cycle_meaning.specs.Cycles.{resumes};
 ghost use Rattle.kernel_world.specs.Acting.{context_of, world_of};
 ghost use Rattle.resumption.specs.Sleeps.{sleeps_of, all_met};
 ghost use Rattle.resumption.specs.Waits.{rows_of, AreWaits, contexts_of, AreThere, answered};
-ghost use Rattle.resumption_calls.specs.Calls.{OthersAreQuiet, QuietWaitsAreNotMet};
+ghost use Rattle.resumption_calls.specs.Calls.{OthersAreQuiet, QuietWaitsAreNotMet, CallsSuffice};
 
 use kernel_world::World;
 use resumption::{Asleep, Waits, is_met};
@@ -18,6 +18,13 @@ use step_data::Refusal;
 /// A wait whose timeout isn't due and none of whose signals had an event isn't met. It is proved, and does nothing when it runs.
 pub fn quiet_waits_are_not_met()
     ensures { QuietWaitsAreNotMet }
+{}
+
+/// Where those processes are called whose timeout is due, and those in the lists of the signals that had an event, the others are
+/// quiet. It is proved, and does nothing when it runs.
+#[tactic(auto, using(crate::proofs::Reaching::calls_suffice))]
+pub fn calls_suffice()
+    ensures { CallsSuffice }
 {}
 
 /// Puts the numbers of the processes that are called in order, each once, without memory.
