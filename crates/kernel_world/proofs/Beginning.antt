@@ -1,6 +1,6 @@
 -- The world at the beginning of a cycle is that of the definition.
 use Rattle.std.proofs.Common.{◌≡◌, ◌<◌, ◌≤◌, ℕ, zero, suc, Bool, true, false, ℤ, List, [], ◌∷◌, ◌++◌, length, map, get_or, refl, sym, ap, subst, ◌∙◌, arith}
-use Rattle.std.specs.Prelude.{Option, None, Some, IfSome}
+use Rattle.std.specs.Prelude.{Option, IfSome}
 use Rattle.std.specs.List.{All}
 use Rattle.std.proofs.lemmas.List.Elements.{All-head, All-tail, All-cons, All-nil}
 use Rattle.ams_value.specs.declared.val.Val.{Val}
@@ -11,7 +11,6 @@ use Rattle.step_data.specs.declared.event.Event.{Event}
 use Rattle.step_data.specs.declared.breaks.Element.{Element}
 use Rattle.step_data.specs.declared.breaks.ThresholdState.{ThresholdState}
 use Rattle.step_data.specs.Pending.{advanced}
-use Rattle.step_data.specs.Times.{earliest, earliest_of}
 use Rattle.step_model.specs.System.{Digital}
 use Rattle.step_model.specs.Kernel.{AddsFront}
 use Rattle.waveform.specs.Projected.{IsRising}
@@ -20,7 +19,7 @@ use Rattle.cycle_meaning.specs.World.{World as CycleWorld, Context, driven_of}
 use Rattle.cycle_meaning.specs.Cycles.{first_time, is_on, with_thresholds, with_driving, threshold_states, domain_in, world_of as begun_world}
 use Rattle.threshold_set.specs.Crossed.{silenced, off, sights, sights_of, crossed, crossed_of, after}
 use Rattle.threshold_set.proofs.Laws.{laws}
-use Rattle.driver_set.specs.Queues.{AreLate, AreRising}
+use Rattle.driver_set.specs.Queues.{AreLate, AreRising, times_of}
 use Rattle.driving_values.specs.Driving.{IsOrdered}
 use Rattle.driven_signals.proofs.Laws.{ordered}
 use Rattle.cycle_changes.specs.Changes.{events_of}
@@ -34,11 +33,6 @@ use Rattle.kernel_world.specs.declared.world.World.{World}
 abbrev AtLeast : ℕ → Option ℕ → Type 0
 AtLeast t time = IfSome time (λ u. t ≤ u)
 
-from_both : (t : ℕ) (a b : Option ℕ) → AtLeast t (earliest a b) → AtLeast t a × AtLeast t b
-from_both t None b h = (tt, h)
-from_both t (Some u) None h = (h, tt)
-from_both t (Some u) (Some v) h = (omega arith, omega arith)
-
 from_first : (t : ℕ) (queue : List Trans) → IsRising queue → AtLeast t (first_time queue) → All (λ (x : Trans). t ≤ x.at) queue
 from_first t [] rising h = All-nil (λ (x : Trans). t ≤ x.at)
 from_first t (x ∷ queue) rising h = at
@@ -47,13 +41,12 @@ from_first t (x ∷ queue) rising h = at
     at zero d inside = h
     at (suc k) d inside = let less : x.at < (get_or queue k d).at = rising 0 (suc k) d (omega arith) inside in omega arith
 
-pub late_of : (t : ℕ) (queues : List (List Trans)) → AreRising queues → IfSome (earliest_of (map first_time queues)) (λ u. t ≤ u) → AreLate t queues
+pub late_of : (t : ℕ) (queues : List (List Trans)) → AreRising queues → All (AtLeast t) (times_of queues) → AreLate t queues
 late_of t [] rising h = All-nil (λ (queue : List Trans). All (λ (x : Trans). t ≤ x.at) queue)
 late_of t (q ∷ queues) rising h =
-    let both = from_both t (first_time q) (earliest_of (map first_time queues)) h in
     All-cons (λ (queue : List Trans). All (λ (x : Trans). t ≤ x.at) queue) q queues
-    (from_first t q (All-head (λ (queue : List Trans). IsRising queue) q queues rising) both.0)
-    (late_of t queues (All-tail (λ (queue : List Trans). IsRising queue) q queues rising) both.1)
+    (from_first t q (All-head (λ (queue : List Trans). IsRising queue) q queues rising) (All-head (AtLeast t) (first_time q) (times_of queues) h))
+    (late_of t queues (All-tail (λ (queue : List Trans). IsRising queue) q queues rising) (All-tail (AtLeast t) (first_time q) (times_of queues) h))
 
 -- ---- the state that is kept
 

@@ -1,10 +1,11 @@
 //! The beginning of a cycle.
 ghost use Rattle.std.specs.Prelude.{◌≡◌, ◌≤◌, [], false, length, map, IfSome, OnOk, OnErr};
+ghost use Rattle.std.specs.List.{All};
 ghost use Rattle.flat_design.specs.Order.{unknown_count};
-ghost use Rattle.step_data.specs.Times.{earliest_of};
 ghost use Rattle.step_model.specs.System.{Digital};
 ghost use Rattle.step_model.specs.Kernel.{AddsFront};
-ghost use Rattle.cycle_meaning.specs.Cycles.{first_time, domain_in, world_of as begun_world};
+ghost use Rattle.cycle_meaning.specs.Cycles.{domain_in, world_of as begun_world};
+ghost use Rattle.driver_set.specs.Queues.{times_of};
 ghost use Rattle.kernel_world.specs.Acting.{context_of, local_of, world_of};
 ghost use Rattle.kernel_world.specs.Beginning.{IsLeft, behind};
 
@@ -44,7 +45,7 @@ impl World<'_> {
     /// of the transactions of the time `t`, and DOMAIN becomes TIME_DOMAIN where `to_time` says so. The events go behind those
     /// so far. Where no memory is found, a front of them was given, and the world is of no use any more.
     pub fn begin(&mut self, t: Tick, n: u32, x: &Point, to_time: bool) -> Result<(), AllocError>
-        requires late { IfSome (earliest_of (map first_time (world_of self.old).queues)) (λ next. t ≤ next) }
+        requires late { All (λ time. IfSome time (λ first. t ≤ first)) (times_of (world_of self.old).queues) }
         requires point { length x.now ≡ unknown_count (context_of self.old).objects }
         ensures context { context_of self.new ≡ record (context_of self.old) { t = t; n = n; x = x.now } }
         ensures variables { (local_of self.new).variables ≡ (local_of self.old).variables }

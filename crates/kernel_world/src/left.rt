@@ -1,13 +1,12 @@
 //! What is read of a world between cycles.
 ghost use Rattle.std.specs.Prelude.{◌≡◌, map};
-ghost use Rattle.step_data.specs.Times.{earliest_of};
-ghost use Rattle.cycle_meaning.specs.Cycles.{first_time, kept_in, threshold_states};
+ghost use Rattle.cycle_meaning.specs.Cycles.{kept_in, threshold_states};
 ghost use Rattle.kernel_world.specs.Reading.{domain_value};
 ghost use Rattle.kernel_world.specs.Acting.{context_of, world_of};
 
 use crate::world::World;
 use ams_value::Val;
-use fix_core::Tick;
+use driver_set::DriverSet;
 use flat_design::Flat;
 use step_data::ThresholdList;
 
@@ -42,10 +41,10 @@ impl<'a> World<'a> {
         self.timed
     }
 
-    /// The least time at which a transaction stands.
-    pub fn first_transaction(&self) -> Option<Tick>
-        ensures { result ≡ earliest_of (map first_time (world_of self.now).queues) }
+    /// The drivers with their pending transactions.
+    pub fn drivers(&self) -> &DriverSet
+        ensures { result.now ≡ (world_of self.now).queues }
     {
-        self.drivers.least()
+        &self.drivers
     }
 }
