@@ -1,6 +1,6 @@
 //! The flat design of a file and a top.
 #![tactic(auto)]
 
-mod flatten;
+mod flattening;
 
-pub use flatten::flatten;
+pub use flattening::flatten;

@@ -3,7 +3,7 @@ use Rattle.std.specs.Str.{bytes_eq}
 use Rattle.unit_index.specs.Index.{known}
 use Rattle.unit_meaning.specs.Walk as spec
 use Rattle.elaborate.proofs.Stages.{behind, failed}
-use Rattle.elaborate.proofs.flatten.flatten_units.Goals as goal
+use Rattle.elaborate.proofs.flattening.flatten_units.Goals as goal
 
 pub returns-in-Ok : goal.returns-in-Ok
 returns-in-Ok c =
