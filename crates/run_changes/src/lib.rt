@@ -2,20 +2,18 @@
 //! laws, which are proved and do nothing when they run.
 #![tactic(auto)]
 
-ghost use Rattle.run_changes.specs.Changes.{RunsChange, StartsChange};
-ghost use Rattle.run_changes.specs.Times.{
+ghost use Rattle.run_laws.specs.Changes.{RunsChange, StartsChange};
+ghost use Rattle.run_laws.specs.Times.{
     BegunIsLate, CycleIsLate, NextIsNotBefore, RunsAreLate, StartIsLate, StartsAreLate,
 };
 
 /// Runs change neither signals nor thresholds nor DOMAIN, and the events that they give can be printed.
-#[tactic(auto, using(crate::proofs::Running::runs_change, crate::proofs::Running::starts_change))]
 pub fn runs_change_drivers_and_breaks_alone()
     ensures runs { RunsChange }
     ensures starts { StartsChange }
 {}
 
 /// No transaction and no timeout that runs leave stands before the time at which they ran, so none does behind a cycle.
-#[tactic(auto, using(crate::proofs::Times::begun_is_late, crate::proofs::Times::runs_are_late, crate::proofs::Times::starts_are_late, crate::proofs::Times::start_is_late, crate::proofs::Times::cycle_is_late, crate::proofs::Times::next_is_not_before))]
 pub fn nothing_stands_before_the_time()
     ensures begun { BegunIsLate }
     ensures runs { RunsAreLate }

@@ -8,7 +8,6 @@ ghost use Rattle.run_types.specs.Queues.{
 };
 
 /// From the first world on, through each run and each cycle, signals and pending transactions have values of their types.
-#[tactic(auto, using(crate::proofs::Beginning::first_fits, crate::proofs::Beginning::begun_fits, crate::proofs::Beginning::begun_is_printable, crate::proofs::Beginning::frame_fits, crate::proofs::Beginning::kept_fits, crate::proofs::Running::runs_fit, crate::proofs::Running::starts_fit))]
 pub fn values_keep_their_types()
     ensures first { FirstFits }
     ensures starts { StartsFit }
@@ -20,7 +19,6 @@ pub fn values_keep_their_types()
 {}
 
 /// Each break element that a run executes is an element of the design.
-#[tactic(auto, using(crate::proofs::Running::runs_break_the_design, crate::proofs::Running::starts_break_the_design))]
 pub fn breaks_are_of_the_design()
     ensures runs { RunsBreakTheDesign }
     ensures starts { StartsBreakTheDesign }

@@ -7,7 +7,10 @@ use Rattle.cycle_meaning.specs.Task.{Task}
 use Rattle.cycle_meaning.specs.World.{World, Context, Local}
 use Rattle.cycle_meaning.specs.Processes.{Stop, stopped, refused, run}
 use Rattle.cycle_meaning.specs.Cycles.{Ran_of, all_ran, one_refused, resumes, run_all, start_all}
-use Rattle.kernel_world.specs.Beginning.{behind}
+
+-- the world with earlier events in front, as `behind` of kernel_world
+abbrev pub behind : List Event → World → World
+behind events w = record w { events = events ++ w.events }
 
 -- the world of a process has earlier events in front
 abbrev pub local_behind : List Event → Local → Local
