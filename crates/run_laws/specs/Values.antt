@@ -33,10 +33,10 @@ abbrev pub QueuesFit : Objects → List (List Trans) → Type 0
 QueuesFit objects queues = AllZip (IsQueueOf objects) (driven_of objects) queues
 
 -- signals and queues between two cycles
-pub record ValuesFit (objects : Objects) (signals : List Val) (queues : List (List Trans)) : Type 0 where
-  pub kinds : map type_of signals ≡ map (λ (s : Signal). s.kind) objects.signals
-  pub ranges : All (λ v. IsTrue (is_in_range (sizes_of objects) v)) signals
-  pub queues : QueuesFit objects queues
+pub record ValuesFit (objects : Objects) (values : List Val) (pending : List (List Trans)) : Type 0 where
+  pub kinds : map type_of values ≡ map (λ (s : Signal). s.kind) objects.signals
+  pub ranges : All (λ v. IsTrue (is_in_range (sizes_of objects) v)) values
+  pub queues : QueuesFit objects pending
 
 -- each selector is a differentiated quantity, and each quantity one of the design (IEEE 1076.1, break statement)
 abbrev pub AreElements : Objects → List Element → Type 0

@@ -1,25 +1,31 @@
-//! The values that runs leave are those of the design: pending transactions have the types of their signals, and break elements
-//! are elements of the design. The functions here are laws, which are proved and do nothing when they run.
+//! The values that the start and cycles leave are those of the design: signals, pending transactions and variables have their
+//! types, and break elements are elements of the design. The functions here are laws, which are proved and do nothing when
+//! they run.
 #![tactic(auto)]
 
-ghost use Rattle.run_types.specs.Elements.{RunsBreakTheDesign, StartsBreakTheDesign};
-ghost use Rattle.run_types.specs.Queues.{
-    BegunFits, BegunIsPrintable, FirstFits, FrameFits, KeptFits, RunsFit, StartsFit,
-};
+ghost use Rattle.run_laws.specs.Safe.{CycleIsPrintable, CycleIsSafe, NextIsLater, StartIsPrintable, StartIsSafe};
+ghost use Rattle.run_laws.specs.Values.{BegunFits, FirstFits, FirstFrameFits, FrameFits, KeptFits, WorldStays};
 
-/// From the first world on, through each run and each cycle, signals and pending transactions have values of their types.
-pub fn values_keep_their_types()
+/// The world in which processes act has values of their types at the start and at the beginning of each cycle, and so have the
+/// values that are kept of it and the frame that equations read.
+pub fn worlds_have_values_of_their_types()
     ensures first { FirstFits }
-    ensures starts { StartsFit }
-    ensures kept { KeptFits }
     ensures begun { BegunFits }
-    ensures printable { BegunIsPrintable }
-    ensures runs { RunsFit }
+    ensures stays { WorldStays }
+    ensures kept { KeptFits }
     ensures frame { FrameFits }
+    ensures first_frame { FirstFrameFits }
 {}
 
-/// Each break element that a run executes is an element of the design.
-pub fn breaks_are_of_the_design()
-    ensures runs { RunsBreakTheDesign }
-    ensures starts { StartsBreakTheDesign }
+/// The start leaves a state from which every cycle can be run, and so does every cycle from such a state.
+pub fn states_stay_safe()
+    ensures start { StartIsSafe }
+    ensures cycle { CycleIsSafe }
+    ensures next { NextIsLater }
+{}
+
+/// The events of the start and of a cycle can be printed, however it ends.
+pub fn events_can_be_printed()
+    ensures start { StartIsPrintable }
+    ensures cycle { CycleIsPrintable }
 {}
