@@ -91,7 +91,7 @@ started_late : (d : Digital) (r : Ran_of) (broke : Bool) → LeavesLate 0 r → 
 started_late d (all_ran w states) broke h e = h
 started_late d (one_refused w r) broke h e = absurd cc
 
-nothing_pending : (driven : List ℕ) → AreLate 0 (map (λ i. []) driven)
+pub nothing_pending : (driven : List ℕ) → AreLate 0 (map (λ i. []) driven)
 nothing_pending [] = All-nil (All (λ (x : Trans). 0 ≤ x.at))
 nothing_pending (i ∷ driven) = All-cons (All (λ (x : Trans). 0 ≤ x.at)) [] (map (λ i. []) driven) (All-nil (λ (x : Trans). 0 ≤ x.at)) (nothing_pending driven)
 
