@@ -1,5 +1,5 @@
 -- A process that runs leaves what fits, and waits again where it can go on.
-use Rattle.std.proofs.Common.{◌≡◌, refl, ap, sym, ◌∙◌, subst, ℕ, zero, suc, ◌+◌, Bool, true, false, List, [], ◌∷◌, ◌++◌, map, Option, Some, None, arith}
+use Rattle.std.proofs.Common.{◌≡◌, refl, ap, sym, ◌∙◌, subst, ℕ, zero, suc, ◌+◌, Bool, true, false, List, [], ◌∷◌, ◌++◌, append-nil, map, Option, Some, None, arith}
 use Rattle.std.specs.List.{All, slice_get}
 use Rattle.std.proofs.lemmas.List.Elements.{All-head, All-tail}
 use Rattle.ams_value.specs.declared.val.Val.{Val}
@@ -186,8 +186,9 @@ resumed_fits here p s w process_is rest h =
     (λ k t q after ends. places_are_kept.again p s from rest.variables (ready.ready.rules.ways, ready.ready.rules.parameters) rest.keeps statement_budget here w k t q after process_is ends))
 
 -- and one that runs for the first time
-first_local : World → Process → Local
-first_local w p = record { world = w; variables = map (λ (v : Variable). v.initial) p.variables }
+starts_so : (here : Context) (p : Process) (before : Local) → process_body here ≡ p.statements
+    → run statement_budget here before (statements p.statements) ≡ stop_in p.statements (run_at statement_budget here p.statements before at_start)
+starts_so here p before body = ap (run statement_budget here before) (sym (append-nil (statements p.statements))) ∙ follows.runs here p.statements statement_budget before at_start body tt
 
 pub started_fits : (here : Context) (p : Process) (w : World) → slice_get here.objects.processes here.process ≡ Some p → IsProcess here.objects p → WorldFits here w
     → StopFits here p (run statement_budget here (record { world = w; variables = map (λ (v : Variable). v.initial) p.variables }) (statements p.statements))
@@ -197,15 +198,6 @@ started_fits here p w process_is rules h =
     subst (StopFits here p) (sym (starts_so here p before (body_is here p process_is)))
     (from_place here p before at_start process_is tt (ready_there here p before (record { frames = []; next = 0; first = None }) process_is ready) (fits_of here w h)
     (λ k t q after ends. places_are_kept.from_start p (rules.ways, rules.parameters) statement_budget here w k t q after process_is ends))
-  where
-    whole : (xs : List Statement) → statements xs ++ [] ≡ statements xs
-    whole [] = refl
-    whole (x ∷ xs) = ap (λ z. _ ∷ z) (whole xs)
-
-    starts_so : (here : Context) (p : Process) (before : Local) → process_body here ≡ p.statements
-        → run statement_budget here before (statements p.statements) ≡ stop_in p.statements (run_at statement_budget here p.statements before at_start)
-    starts_so here p before body = ap (run statement_budget here before) (sym (whole p.statements)) ∙ follows.runs here p.statements statement_budget before at_start body tt
-
 -- ---- all
 
 abbrev pub numbered : Context → ℕ → Context
