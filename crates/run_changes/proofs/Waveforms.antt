@@ -84,7 +84,6 @@ time_is_late here (val.Bits _ _) at e = absurd cc
 
 -- ---- the transactions of a waveform
 
-
 pub transactions_late : (here : Context) (l : Local) (fits : Val → Bool) (limit before : Option ℤ) (wave : List WaveElement) (new : List Trans) → transactions here l fits limit before wave ≡ Ok new
     → All (λ (x : Trans). here.t ≤ x.at) new
 unfolding transactions

@@ -4,7 +4,12 @@
 
 ghost use Rattle.run_laws.specs.Changes.{RunsChange, StartsChange};
 ghost use Rattle.run_laws.specs.Times.{
-    BegunIsLate, CycleIsLate, NextIsNotBefore, RunsAreLate, StartIsLate, StartsAreLate,
+  BegunIsLate,
+  CycleIsLate,
+  NextIsNotBefore,
+  RunsAreLate,
+  StartIsLate,
+  StartsAreLate,
 };
 
 /// Runs change neither signals nor thresholds nor DOMAIN, and the events that they give can be printed.

@@ -42,10 +42,9 @@ pub begun_is_printable : (objects : Objects) (sys : System) (d : Digital) (t n :
 begun_is_printable objects sys d t n x to_time prints fit =
     let thresholds : List Seen = with_thresholds x objects.thresholds d.kept in
     let signals : List Seen = with_driving t (driven_of objects) d.queues 0 d.signals in
-    All-append (Prints sys) (event_if to_time (event.Domain t n)) (crossings t n 0 thresholds ++ signal_events t n 0 signals)
-    (if_printed sys to_time (event.Domain t n) refl)
-    (All-append (Prints sys) (crossings t n 0 thresholds) (signal_events t n 0 signals) (crossings_printed sys t n 0 thresholds)
-    (signals_printed objects sys prints t n 0 signals (begun_signals objects d t fit).ranges))
+    All-append (Prints sys) (event_if to_time (event.Domain t n) ++ crossings t n 0 thresholds) (signal_events t n 0 signals)
+    (All-append (Prints sys) (event_if to_time (event.Domain t n)) (crossings t n 0 thresholds) (if_printed sys to_time (event.Domain t n) refl) (crossings_printed sys t n 0 thresholds))
+    (signals_printed objects sys prints t n 0 signals (begun_signals objects d t fit).ranges)
 
 ended_printed : (sys : System) (d : Digital) (t : ℕ) (timed : Bool) (r : Ran_of) → CanPrint sys (world_behind r).events → CanPrint sys (ended d t timed r).events
 ended_printed sys d t timed (all_ran w states) h = h

@@ -198,6 +198,7 @@ started_fits here p w process_is rules h =
     subst (StopFits here p) (sym (starts_so here p before (body_is here p process_is)))
     (from_place here p before at_start process_is tt (ready_there here p before (record { frames = []; next = 0; first = None }) process_is ready) (fits_of here w h)
     (λ k t q after ends. places_are_kept.from_start p (rules.ways, rules.parameters) statement_budget here w k t q after process_is ends))
+
 -- ---- all
 
 abbrev pub numbered : Context → ℕ → Context

@@ -80,17 +80,17 @@ transactions_typed here p l ready ps k fits limit before (w ∷ more) all new e 
     (λ v b v_is. by_steps (AreTyped here.objects k) (delay_of here l w.delay) (λ d. tested v d)
     (λ d b _. by_steps (AreTyped here.objects k) (refused_where (not (fits v)) (refusal here range) v) (λ u. delayed d u)
     (λ u b u_is. by_steps (AreTyped here.objects k) (refused_where (bad_delay limit before (ticks_of d)) (refusal here range) (ticks_of d)) (λ delay. timed d u delay)
-    (λ delay b _. by_steps (AreTyped here.objects k) (time_after here d) (λ at. later at u delay)
-    (λ at b _. by_steps (AreTyped here.objects k) (transactions here l fits limit (Some delay) more) (λ others. Ok (record { at = at; value = u } ∷ others))
-    (λ others b others_are is. subst (AreTyped here.objects k) (ok_is (record { at = at; value = u } ∷ others) b is)
-    (All-cons (λ (x : Trans). IsOfType (sizes_of here.objects) k x.value) (record { at = at; value = u }) others (typed v u v_is u_is)
+    (λ delay b _. by_steps (AreTyped here.objects k) (time_after here d) (λ time. later time u delay)
+    (λ time b _. by_steps (AreTyped here.objects k) (transactions here l fits limit (Some delay) more) (λ others. Ok (record { at = time; value = u } ∷ others))
+    (λ others b others_are is. subst (AreTyped here.objects k) (ok_is (record { at = time; value = u } ∷ others) b is)
+    (All-cons (λ (x : Trans). IsOfType (sizes_of here.objects) k x.value) (record { at = time; value = u }) others (typed v u v_is u_is)
     (transactions_typed here p l ready ps k fits limit (Some delay) more (All-tail (IsWaveElement here.objects p ps k) w more all) others others_are))) b) b) b) b) b) new e
   where
     later : ℕ → Val → ℤ → Result (List Trans) Refusal
-    later at u delay = transactions here l fits limit (Some delay) more >>= (λ others. Ok (record { at = at; value = u } ∷ others))
+    later time u delay = transactions here l fits limit (Some delay) more >>= (λ others. Ok (record { at = time; value = u } ∷ others))
 
     timed : Val → Val → ℤ → Result (List Trans) Refusal
-    timed d u delay = time_after here d >>= (λ at. later at u delay)
+    timed d u delay = time_after here d >>= (λ time. later time u delay)
 
     delayed : Val → Val → Result (List Trans) Refusal
     delayed d u = refused_where (bad_delay limit before (ticks_of d)) (refusal here range) (ticks_of d) >>= (λ delay. timed d u delay)
