@@ -1,5 +1,5 @@
 -- What a statement changes of the world.
-use Rattle.std.proofs.Common.{◌≡◌, ◌≤◌, refl, sym, ◌∙◌, subst, ℕ, Bool, true, false, not, ◌&&◌, List, [], ◌∷◌, ◌++◌, Option, Some, None, Result, Ok, Err, slice_set}
+use Rattle.std.proofs.Common.{◌≡◌, ◌≤◌, refl, ◌∙◌, subst, ℕ, Bool, true, false, not, ◌&&◌, List, [], ◌++◌, Option, Some, None, Result, Ok, Err, slice_set}
 use Rattle.std.specs.Prelude.{IfSome, IsTrue}
 use Rattle.std.specs.List.{All, slice_get}
 use Rattle.std.proofs.lemmas.List.Elements.{All-nil, All-push, All-set}
@@ -22,12 +22,12 @@ use Rattle.step_data.specs.declared.event.Event.{Event}
 use Rattle.step_data.specs.declared.event.Event.TheVariants as event
 use Rattle.step_data.specs.declared.outcome.Refusal.{Refusal}
 use Rattle.step_model.specs.System.{System}
-use Rattle.step_model.specs.Printing.{can_print, CanPrint}
+use Rattle.step_model.specs.Printing.{can_print}
 use Rattle.waveform.specs.Projected.{projected}
 use Rattle.driver_set.specs.Queues.{AreLate}
-use Rattle.cycle_meaning.specs.Task.{Task, Layer, statements, behind_loop, at_next_turn}
+use Rattle.cycle_meaning.specs.Task.{Task, Layer, statements}
 use Rattle.cycle_meaning.specs.World.{World, Context, Local, evaluated, holds, refusal, refused_where, time_after, number_of_driver, pending_of, with_event}
-use Rattle.cycle_meaning.specs.Statements.{Step, goes_on, waits, refuses, or_refuses, goes, signal_assignment, variable_assignment, limit_of, transactions, assigned, delay_kind_of, rejection, constraint_of, branch_taken, alternative_taken, for_loop, reported, asserted, number_of_severity, with_report, break_by, elements_of, with_elements, timeout_of, executed}
+use Rattle.cycle_meaning.specs.Statements.{Step, goes_on, waits, refuses, or_refuses, goes, signal_assignment, variable_assignment, limit_of, transactions, assigned, delay_kind_of, rejection, constraint_of, branch_taken, alternative_taken, for_loop, reported, asserted, break_by, elements_of, with_elements, timeout_of, executed}
 use Rattle.run_laws.specs.Changes.{ChangesTo}
 use Rattle.run_changes.proofs.Waveforms.{by_steps, ok_is, projected_all, element_of, time_is_late, transactions_late}
 

@@ -1,6 +1,6 @@
 -- Nothing that a cycle leaves stands before its time.
-use Rattle.std.proofs.Common.{◌≡◌, ◌≤◌, ◌<◌, refl, ap, sym, subst, ℕ, zero, suc, ◌+◌, Bool, true, false, ◌||◌, ℤ, List, [], ◌∷◌, ◌++◌, map, Option, Some, None, Result, Ok, Err, arith}
-use Rattle.std.specs.Prelude.{IfSome, nat_lt, filter}
+use Rattle.std.proofs.Common.{◌≡◌, ◌≤◌, ◌<◌, refl, subst, ℕ, ◌+◌, Bool, true, false, ◌||◌, ℤ, List, [], ◌∷◌, ◌++◌, map, Option, Some, None, Result, Ok, Err, arith}
+use Rattle.std.specs.Prelude.{IfSome}
 use Rattle.std.specs.List.{All}
 use Rattle.std.proofs.lemmas.Bool.Decides.{nat_tests}
 use Rattle.std.proofs.lemmas.List.Elements.{All-nil, All-cons, All-head, All-tail, All-append, All-map, All-weaker, filter_passes}
@@ -9,14 +9,14 @@ use Rattle.flat_design.specs.declared.objects.Process.{Process}
 use Rattle.flat_design.specs.declared.objects.Objects.{Objects}
 use Rattle.step_data.specs.declared.trans.Trans.{Trans}
 use Rattle.step_data.specs.declared.outcome.Refusal.{Refusal}
-use Rattle.step_data.specs.declared.outcome.Ran.TheVariants.{Done, Refused}
+use Rattle.step_data.specs.declared.outcome.Ran.TheVariants.{Done}
 use Rattle.step_data.specs.Pending.{is_after, advanced}
 use Rattle.step_data.specs.Times.{earliest, earliest_of}
 use Rattle.step_model.specs.System.{ProcessState, Digital}
 use Rattle.cycle_meaning.specs.Task.{statements}
 use Rattle.cycle_meaning.specs.World.{World, Context, driven_of}
 use Rattle.cycle_meaning.specs.Processes.{Stop, stopped, refused, run, statement_budget, state_of, left_behind}
-use Rattle.cycle_meaning.specs.Cycles.{Ran_of, all_ran, one_refused, with_state, after_stop, by_resumption, local_of, run_all, start_all, context_at, world_of, first_world, first_digital, resumes, ended, after_resumption, cycle, start, first_time, next_time}
+use Rattle.cycle_meaning.specs.Cycles.{Ran_of, all_ran, one_refused, with_state, after_stop, by_resumption, local_of, run_all, start_all, context_at, world_of, first_world, first_digital, resumes, ended, after_resumption, cycle, start, first_time}
 use Rattle.driver_set.specs.Queues.{AreLate}
 use Rattle.next_cycle.specs.Next.{timeouts_of, NoneIsEarlier}
 use Rattle.run_laws.specs.Times.{NoneIsBefore, LeavesLate, BegunIsLate, RunsAreLate, StartsAreLate, StartIsLate, CycleIsLate, NextIsNotBefore}

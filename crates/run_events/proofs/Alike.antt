@@ -1,5 +1,5 @@
 -- A process that runs behind earlier events.
-use Rattle.std.proofs.Common.{◌≡◌, refl, ap, ◌∙◌, ℕ, zero, suc, Bool, true, false, not, ◌&&◌, ℤ, if◌then◌else◌, List, [], ◌∷◌, ◌++◌, append_assoc, Option, Some, None, Result, Ok, Err, slice_set}
+use Rattle.std.proofs.Common.{◌≡◌, refl, ap, ◌∙◌, ℕ, zero, suc, Bool, true, false, not, ◌&&◌, ℤ, if◌then◌else◌, List, [], ◌∷◌, ◌++◌, append_assoc, Option, None, Result, Ok, Err, slice_set}
 use Rattle.std.specs.List.{slice_get}
 use Rattle.std.specs.Ordering.{int_eq}
 use Rattle.message_codes.specs.Codes.{range, failure}
@@ -22,8 +22,8 @@ use Rattle.step_data.specs.declared.breaks.Element.{Element}
 use Rattle.step_data.specs.declared.outcome.Refusal.{Refusal}
 use Rattle.cycle_meaning.specs.Task.{Task, statement, again, first_turn, next_turn, statements, behind_loop, at_next_turn, Layer}
 use Rattle.cycle_meaning.specs.World.{Context, Local, evaluated, holds, refusal, refused_where}
-use Rattle.cycle_meaning.specs.Statements.{Step, goes_on, waits, refuses, or_refuses, goes, signal_assignment, variable_assignment, limit_of, transactions, assigned, constraint_of, branch_taken, alternative_taken, for_loop, reported, asserted, number_of_severity, with_report, break_by, elements_of, with_elements, timeout_of, executed}
-use Rattle.cycle_meaning.specs.Processes.{Next, begins, turns, returns, faulty, stepped, with_parameter, parameter_of, by_condition, next_of, Stop, stopped, refused, after_step, spent, counted, run, process_body}
+use Rattle.cycle_meaning.specs.Statements.{Step, goes_on, waits, refuses, or_refuses, goes, signal_assignment, variable_assignment, limit_of, transactions, assigned, constraint_of, branch_taken, alternative_taken, for_loop, reported, asserted, with_report, break_by, elements_of, with_elements, timeout_of, executed}
+use Rattle.cycle_meaning.specs.Processes.{Next, begins, turns, returns, faulty, stepped, with_parameter, parameter_of, by_condition, next_of, Stop, after_step, spent, counted, run, process_body}
 use Rattle.run_laws.specs.Events.{local_behind, stop_behind, RunAlike}
 use Rattle.run_events.proofs.Parts.{bind_alike, holds_alike, timeout_alike, limit_alike, transactions_alike, branch_alike, elements_alike}
 

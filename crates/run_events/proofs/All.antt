@@ -1,5 +1,5 @@
 -- All processes behind earlier events.
-use Rattle.std.proofs.Common.{◌≡◌, refl, ap, ◌∙◌, ℕ, ◌+◌, Bool, true, false, ℤ, List, [], ◌∷◌, ◌++◌, map, Result, Ok, Err}
+use Rattle.std.proofs.Common.{◌≡◌, refl, ap, ◌∙◌, ◌+◌, Bool, true, false, ℤ, List, [], ◌∷◌, ◌++◌, map, Result}
 use Rattle.std.specs.List.{list_any}
 use Rattle.flat_design.specs.declared.objects.Variable.{Variable}
 use Rattle.flat_design.specs.declared.objects.Process.{Process}
@@ -8,7 +8,7 @@ use Rattle.step_data.specs.declared.outcome.Refusal.{Refusal}
 use Rattle.step_model.specs.System.{ProcessState}
 use Rattle.design_meaning.specs.Readings.{seen_of}
 use Rattle.cycle_meaning.specs.Task.{Task, statement, again, first_turn, next_turn, statements}
-use Rattle.cycle_meaning.specs.World.{World, Context, Local, readings_at, holds}
+use Rattle.cycle_meaning.specs.World.{World, Context, Local, readings_at}
 use Rattle.cycle_meaning.specs.Processes.{Stop, stopped, refused, run, statement_budget, parameter_of, loops_in, declared_values, state_of, left_behind}
 use Rattle.cycle_meaning.specs.Cycles.{waiting_of, is_timed_out, condition_met, is_met_by, is_met, joined, resumes, Ran_of, all_ran, one_refused, with_state, after_stop, by_resumption, local_of, run_all, start_all}
 use Rattle.run_laws.specs.Events.{behind}

@@ -1,6 +1,5 @@
 -- What a statement evaluates doesn't depend on the events.
-use Rattle.std.proofs.Common.{◌≡◌, refl, ap, ◌∙◌, ℕ, Bool, true, false, not, ℤ, pos, List, [], ◌∷◌, ◌++◌, Option, Some, None, Result, Ok, Err}
-use Rattle.std.specs.Prelude.{int_lt}
+use Rattle.std.proofs.Common.{◌≡◌, refl, ap, ◌∙◌, ℕ, Bool, not, ℤ, List, [], ◌∷◌, ◌++◌, Option, Some, None, Result, Ok, Err}
 use Rattle.message_codes.specs.Codes.{range, double_break}
 use Rattle.fix_core.specs.Passes.{◌>>=◌}
 use Rattle.ams_value.specs.declared.val.Val.{Val}

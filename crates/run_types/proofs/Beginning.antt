@@ -1,11 +1,9 @@
 -- The world at the start and at the beginning of a cycle.
-use Rattle.std.proofs.Common.{◌≡◌, ◌≤◌, ◌<◌, refl, ap, sym, ◌∙◌, subst, ℕ, zero, suc, ◌+◌, ◌-◌, Bool, true, false, not, ◌||◌, if◌then◌else◌, ℤ, List, [], ◌∷◌, map, length, take, drop, Option, Some, None, arith}
+use Rattle.std.proofs.Common.{◌≡◌, refl, ap, sym, ◌∙◌, subst, ℕ, suc, ◌+◌, Bool, true, false, ◌||◌, if◌then◌else◌, ℤ, List, [], ◌∷◌, map, length, drop, Option, Some, None, arith}
 use Rattle.std.specs.Prelude.{IsTrue, IfSome, nat_lt, get_or}
 use Rattle.std.specs.List.{All, slice_get}
-use Rattle.std.proofs.lemmas.Bool.Decides.{nat_tests}
 use Rattle.std.proofs.lemmas.List.{length-take, length-drop, length-map}
 use Rattle.std.proofs.lemmas.List.Elements.{All-nil, All-cons, All-head, All-tail, All-map}
-use Rattle.fix_core.specs.Units.{most_ticks}
 use Rattle.ams_value.specs.declared.val.Val.{Val}
 use Rattle.ams_value.specs.declared.val.Val.TheVariants as val
 use Rattle.ams_value.specs.declared.value_type.ValueType.TheVariants.{Boolean, Enumeration}
@@ -23,13 +21,12 @@ use Rattle.step_model.specs.System.{Digital}
 use Rattle.design_meaning.specs.Readings.{Seen, still}
 use Rattle.design_meaning.specs.Reading.{quantities_in, references_in, dots_in, quiescent_domain, time_domain}
 use Rattle.design_meaning.specs.Typed.{IsOfType}
-use Rattle.cycle_meaning.specs.World.{World, Context, driven_of}
-use Rattle.cycle_meaning.specs.Cycles.{changed, with_thresholds, driving, queue_in, with_driving, domain_in, context_at, world_of, first_world}
+use Rattle.cycle_meaning.specs.World.{driven_of}
+use Rattle.cycle_meaning.specs.Cycles.{changed, with_thresholds, driving, queue_in, with_driving}
 use Rattle.design_rules.specs.Types.{sizes_of}
 use Rattle.design_rules.specs.Design.{domain_type, IsSignal, IsDesign}
 use Rattle.system_model.specs.System.{is_element}
-use Rattle.process_rest.specs.Resting.{IsWorld}
-use Rattle.run_laws.specs.Values.{IsOfSignal, IsQueueOf, QueuesFit, ValuesFit, AreElements, WorldFits, FirstFits, BegunFits, WorldStays, KeptFits}
+use Rattle.run_laws.specs.Values.{IsOfSignal, QueuesFit, ValuesFit, AreElements, FirstFits, BegunFits, WorldStays, KeptFits}
 use Rattle.run_types.proofs.Queues.{queue_fits, due_has, advanced_fit, nothing_fits}
 
 abbrev pub InRange : Objects → Val → Type 0

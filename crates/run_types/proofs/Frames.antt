@@ -1,5 +1,5 @@
 -- The frame that equations read.
-use Rattle.std.proofs.Common.{◌≡◌, ◌≤◌, ◌<◌, refl, ap, sym, ◌∙◌, subst, ℕ, zero, suc, ◌+◌, Bool, true, false, ◌&&◌, List, [], ◌∷◌, ◌++◌, map, length, Option, Some, None, arith}
+use Rattle.std.proofs.Common.{◌≡◌, ◌≤◌, ◌<◌, refl, ap, ◌∙◌, subst, ℕ, zero, suc, ◌+◌, Bool, true, false, ◌&&◌, List, [], ◌∷◌, map, length, Option, Some, None, arith}
 use Rattle.std.specs.Prelude.{IsTrue, nat_eq, filter}
 use Rattle.std.specs.List.{All, slice_get, slice_index_or, range_with_len}
 use Rattle.std.proofs.lemmas.Bool.Decides.{nat_tests}
@@ -17,10 +17,8 @@ use Rattle.flat_design.specs.Reads.{is_read, frame_of}
 use Rattle.step_model.specs.System.{Digital}
 use Rattle.design_meaning.specs.Typed.{same_type, IsOfType}
 use Rattle.value_types.proofs.Types.{read_at}
-use Rattle.cycle_meaning.specs.World.{driven_of}
-use Rattle.cycle_meaning.specs.Cycles.{value_in, frame, first_digital}
+use Rattle.cycle_meaning.specs.Cycles.{value_in, first_digital}
 use Rattle.design_rules.specs.Types.{sizes_of}
-use Rattle.design_rules.specs.Design.{IsDesign}
 use Rattle.system_model.specs.System.{is_signal_value, is_value_of, are_values_of}
 use Rattle.run_laws.specs.Values.{ValuesFit, FrameFits, FirstFrameFits}
 use Rattle.run_types.proofs.Beginning.{InRange, first_values_fit}

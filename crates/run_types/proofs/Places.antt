@@ -1,12 +1,11 @@
 -- A place in the text is that of a stack.
-use Rattle.std.proofs.Common.{◌≡◌, refl, ap, sym, ◌∙◌, subst, ℕ, ℤ, List, [], ◌∷◌, ◌++◌, Option, Some, None}
+use Rattle.std.proofs.Common.{◌≡◌, refl, ap, sym, ◌∙◌, subst, ℕ, List, [], ◌∷◌, ◌++◌, Option, None}
 use Rattle.flat_expr.specs.declared.statement.Statement.{Statement}
 use Rattle.flat_design.specs.declared.objects.Process.{Process}
 use Rattle.cycle_meaning.specs.Task.{Layer}
 use Rattle.cycle_meaning.specs.World.{Context, Local}
-use Rattle.design_rules.specs.Ways.{layer_at}
-use Rattle.process_laws.specs.Resumed.{Surroundings, outermost, inside, body_in, AreOf}
-use Rattle.process_place.specs.ProcessPlace.{ProcessPlace, at, IsIn}
+use Rattle.process_laws.specs.Resumed.{Surroundings, outermost, inside, AreOf}
+use Rattle.process_place.specs.ProcessPlace.{at, IsIn}
 use Rattle.process_ready.specs.Ready.{GoesReady}
 use Rattle.process_stack.specs.declared.stack.Frame.{Frame}
 use Rattle.process_stack.specs.Stacks.{Stacked, layer_or_null, within, round_of, place_of}

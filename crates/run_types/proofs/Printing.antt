@@ -1,5 +1,5 @@
 -- The events of the start and of a cycle can be printed.
-use Rattle.std.proofs.Common.{◌≡◌, refl, sym, subst, ℕ, ◌+◌, Bool, true, false, ◌||◌, ℤ, List, [], ◌∷◌, ◌++◌, Option, Some, None, Result, Ok, Err}
+use Rattle.std.proofs.Common.{refl, ℕ, ◌+◌, Bool, true, false, ◌||◌, ℤ, List, [], ◌∷◌, ◌++◌, Result, Ok, Err}
 use Rattle.std.specs.Prelude.{IsTrue}
 use Rattle.std.specs.List.{All}
 use Rattle.std.proofs.lemmas.List.Elements.{All-nil, All-cons, All-head, All-tail, All-append}
@@ -10,7 +10,7 @@ use Rattle.step_data.specs.declared.outcome.Refusal.{Refusal}
 use Rattle.step_model.specs.System.{System, Digital}
 use Rattle.step_model.specs.Printing.{can_print, CanPrint}
 use Rattle.design_meaning.specs.Readings.{Seen}
-use Rattle.cycle_meaning.specs.World.{World, Context, driven_of}
+use Rattle.cycle_meaning.specs.World.{World, driven_of}
 use Rattle.cycle_meaning.specs.Cycles.{event_if, crossings, is_on, with_thresholds, with_driving, signal_events, Ran_of, all_ran, one_refused, run_all, start_all, context_at, world_of, first_world, first_digital, resumes, ended, after_resumption, cycle, start}
 use Rattle.run_laws.specs.Changes.{world_behind}
 use Rattle.run_laws.specs.Values.{ValuesFit}

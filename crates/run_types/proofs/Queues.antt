@@ -1,5 +1,5 @@
 -- The queues of driven signals.
-use Rattle.std.proofs.Common.{◌≡◌, refl, ap, sym, ◌∙◌, subst, ℕ, zero, suc, Bool, true, false, ◌+◌, ◌≤◌, cond, not, if◌then◌else◌, nat_eq, List, [], ◌∷◌, map, length, Option, Some, None, slice_set, arith}
+use Rattle.std.proofs.Common.{◌≡◌, refl, sym, subst, ℕ, suc, Bool, true, false, ◌+◌, ◌≤◌, cond, not, if◌then◌else◌, nat_eq, List, [], ◌∷◌, map, length, Some, None, slice_set, arith}
 use Rattle.std.specs.Prelude.{IfSome, unwrap_or, find, nat_lt}
 use Rattle.std.specs.List.{All, AllZip, slice_index_or, prefix_len}
 use Rattle.std.proofs.lemmas.Bool.Decides.{nat_tests}

@@ -2,11 +2,9 @@
 use Rattle.std.proofs.Common.{◌≡◌, refl, ap, sym, ◌∙◌, subst, ℕ, zero, suc, ◌+◌, Bool, true, false, List, [], ◌∷◌, ◌++◌, append-nil, map, Option, Some, None, arith}
 use Rattle.std.specs.List.{All, slice_get}
 use Rattle.std.proofs.lemmas.List.Elements.{All-head, All-tail}
-use Rattle.ams_value.specs.declared.val.Val.{Val}
 use Rattle.flat_expr.specs.declared.statement.Statement.{Statement, out-Statement}
 use Rattle.flat_design.specs.declared.objects.Variable.{Variable}
 use Rattle.flat_design.specs.declared.objects.Process.{Process}
-use Rattle.flat_design.specs.declared.objects.Objects.{Objects}
 use Rattle.step_model.specs.System.{ProcessState}
 use Rattle.cycle_meaning.specs.Task.{Layer, statements}
 use Rattle.cycle_meaning.specs.World.{World, Context, Local}
@@ -17,7 +15,7 @@ use Rattle.design_rules.specs.Design.{IsProcess}
 use Rattle.process_laws.specs.Resumed.{Surroundings, body_in, AreOf}
 use Rattle.process_laws.specs.Held.{kept_variables}
 use Rattle.process_laws.proofs.Places.{parameters_round}
-use Rattle.process_place.specs.ProcessPlace.{ProcessPlace, at, at_start, tasks_at, IsIn}
+use Rattle.process_place.specs.ProcessPlace.{ProcessPlace, at_start, tasks_at, IsIn}
 use Rattle.process_place.specs.Moves.{Coming, begins_at, turns_to, starts_again, has_fault, coming, Moved, goes_to, waits_at, is_refused, moved, Ended, waiting, ended_refused, after_move, nothing_left, one_counted, run_at}
 use Rattle.process_place.specs.Follows.{next_in, stop_in, ComesIn, MovesIn}
 use Rattle.process_place.specs.Kept.{KeepsPlace}
@@ -28,7 +26,6 @@ use Rattle.process_ready.proofs.Allowed.{allowed_at}
 use Rattle.process_ready.proofs.Staying.{stays}
 use Rattle.process_stack.specs.Stacks.{Stacked, place_of}
 use Rattle.proc_exec.specs.Running.{StandsReady}
-use Rattle.process_rest.specs.Resting.{IsWorld}
 use Rattle.process_rest.proofs.Behind.{IsBehind, EndsBehind, run_behind}
 use Rattle.process_rest.proofs.ReadyAgain.{rests_ready, starts_ready, goes_on_ready}
 use Rattle.run_laws.specs.Values.{WorldFits}

@@ -1,21 +1,14 @@
 -- The start and each cycle leave a state from which every cycle can be run.
-use Rattle.std.proofs.Common.{◌≡◌, ◌≤◌, refl, subst, ℕ, Bool, true, false, ◌||◌, ℤ, List, [], ◌∷◌, map, length, Option, Some, None, Result, Ok, Err, arith}
-use Rattle.std.specs.Prelude.{IfSome}
-use Rattle.fix_core.specs.Units.{most_ticks}
-use Rattle.flat_design.specs.declared.objects.Process.{Process}
+use Rattle.std.proofs.Common.{◌≡◌, refl, ℕ, Bool, false, ◌||◌, ℤ, List, Result, Ok, Err}
 use Rattle.flat_design.specs.declared.objects.Objects.{Objects}
-use Rattle.flat_design.specs.Order.{unknown_count}
 use Rattle.step_data.specs.declared.outcome.Refusal.{Refusal}
-use Rattle.step_data.specs.declared.outcome.Ran.TheVariants.{Done, Refused}
-use Rattle.step_model.specs.System.{ProcessState, Digital}
-use Rattle.design_meaning.specs.Readings.{Seen}
+use Rattle.step_data.specs.declared.outcome.Ran.TheVariants.{Done}
+use Rattle.step_model.specs.System.{Digital}
 use Rattle.cycle_meaning.specs.World.{World, Context, driven_of}
-use Rattle.cycle_meaning.specs.Cycles.{Ran_of, all_ran, one_refused, run_all, start_all, context_at, world_of, first_world, first_digital, resumes, ended, after_resumption, cycle, start, next_time}
-use Rattle.design_rules.specs.Design.{IsDesign}
-use Rattle.next_cycle.specs.Next.{timeouts_of, NoneIsEarlier}
+use Rattle.cycle_meaning.specs.Cycles.{Ran_of, all_ran, one_refused, run_all, start_all, context_at, world_of, first_world, first_digital, resumes, ended, after_resumption, cycle, start}
 use Rattle.next_cycle.proofs.Earliest.{next_is_first}
 use Rattle.run_laws.specs.Times.{NoneIsBefore, LeavesLate}
-use Rattle.run_laws.specs.Values.{ValuesFit, WorldFits}
+use Rattle.run_laws.specs.Values.{WorldFits}
 use Rattle.run_laws.specs.Safe.{AreResting, IsSafe, StartIsSafe, CycleIsSafe, NextIsLater}
 use Rattle.run_changes.proofs.Times.{begun_is_late, runs_are_late, starts_are_late, nothing_pending, next_is_not_before}
 use Rattle.run_types.proofs.Beginning.{first_fits, begun_fits, kept_fits}

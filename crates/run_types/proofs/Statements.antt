@@ -1,5 +1,5 @@
 -- A statement leaves pending transactions of the types of their signals, and break elements of the design.
-use Rattle.std.proofs.Common.{◌≡◌, ◌<◌, refl, ap, sym, ◌∙◌, subst, ℕ, zero, suc, ◌+◌, Bool, true, false, not, ◌&&◌, ◌||◌, nat_eq, ℤ, pos, if◌then◌else◌, List, [], ◌∷◌, ◌++◌, length, Option, Some, None, Result, Ok, Err, slice_set, arith}
+use Rattle.std.proofs.Common.{◌≡◌, ◌<◌, refl, ap, sym, ◌∙◌, subst, ℕ, zero, suc, ◌+◌, Bool, true, false, not, ◌&&◌, ◌||◌, nat_eq, ℤ, List, [], ◌∷◌, ◌++◌, length, Option, Some, None, Result, Ok, Err, slice_set, arith}
 use Rattle.std.specs.Prelude.{IsTrue, nat_lt}
 use Rattle.std.specs.List.{All, slice_get, list_any}
 use Rattle.std.proofs.lemmas.Bool.Decides.{nat_tests}
@@ -17,12 +17,10 @@ use Rattle.flat_expr.specs.declared.statement.WaveElement.{WaveElement}
 use Rattle.flat_expr.specs.declared.statement.DelayMechanism.{DelayMechanism}
 use Rattle.flat_expr.specs.declared.statement.Severity.{Severity}
 use Rattle.flat_expr.specs.declared.statement.Severity.TheVariants as severity
-use Rattle.flat_expr.specs.declared.statement.Statement.{Statement}
 use Rattle.flat_expr.specs.declared.statement.Statement.TheOpen.{Statement-F}
 use Rattle.flat_design.specs.declared.objects.Signal.{Signal}
 use Rattle.flat_design.specs.declared.objects.Process.{Process}
 use Rattle.flat_design.specs.declared.objects.Objects.{Objects}
-use Rattle.flat_design.specs.Lists.{number_in}
 use Rattle.step_data.specs.declared.trans.Trans.{Trans}
 use Rattle.step_data.specs.declared.breaks.Element.{Element}
 use Rattle.step_data.specs.Selectors.{has_selector}
@@ -33,18 +31,16 @@ use Rattle.design_meaning.specs.Typed.{IsOfType}
 use Rattle.design_meaning.specs.Value.{value_of}
 use Rattle.value_types.proofs.Typing.{values_are_typed}
 use Rattle.cycle_meaning.specs.Task.{Layer}
-use Rattle.cycle_meaning.specs.World.{World, Context, Local, readings_at, evaluated, holds, of_fault, refusal, refused_where, time_after, driven_of, pending_of}
+use Rattle.cycle_meaning.specs.World.{World, Context, Local, readings_at, evaluated, holds, of_fault, refusal, refused_where, time_after, pending_of}
 use Rattle.cycle_meaning.specs.Statements.{signal_assignment, variable_assignment, limit_of, delay_of, bad_delay, transactions, assigned, delay_kind_of, rejection, constraint_of, break_by, executed_element, elements_of, with_elements, timeout_of}
 use Rattle.design_rules.specs.Types.{sizes_of, process_scope, IsExpression}
 use Rattle.design_rules.specs.Statements.{IsWaveElement, IsBreakElement, IsAllowed}
 use Rattle.system_model.specs.System.{is_element}
-use Rattle.statement_values.specs.declared.range.LoopRange.{LoopRange}
 use Rattle.statement_values.specs.LoopRanges.{loop_range}
 use Rattle.statement_lists.specs.Branches.{branch_number}
-use Rattle.statement_lists.specs.Alternatives.{alternative_number}
-use Rattle.process_laws.specs.Resumed.{Surroundings, inside}
+use Rattle.process_laws.specs.Resumed.{Surroundings}
 use Rattle.process_place.specs.ProcessPlace.{ProcessPlace, at}
-use Rattle.process_place.specs.Moves.{Moved, goes_to, waits_at, is_refused, or_refused, behind_loop_at, end_of_turn_at, chosen_at, ranged_at, reported_at, asserted_at, moved}
+use Rattle.process_place.specs.Moves.{Moved, goes_to, waits_at, is_refused, or_refused, reported_at, asserted_at, moved}
 use Rattle.process_ready.specs.Ready.{IsReady}
 use Rattle.run_changes.proofs.Waveforms.{by_steps, ok_is, where_is, projected_all}
 use Rattle.run_laws.specs.Values.{IsOfSignal, IsQueueOf, QueuesFit, AreElements}
