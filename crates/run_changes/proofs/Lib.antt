@@ -1,0 +1,4 @@
+pub mod Waveforms
+pub mod Statements
+pub mod Running
+pub mod Times

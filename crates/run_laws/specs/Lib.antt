@@ -1,0 +1,5 @@
+pub mod Changes
+pub mod Times
+pub mod Events
+pub mod Values
+pub mod Safe
