@@ -1,5 +1,5 @@
 -- What is asked for, from what each option is given.
-use Rattle.std.proofs.Common.{◌≡◌, ℕ, List, Option, Some, None, codes, refl, sym, ap, subst, ◌∙◌, map, []}
+use Rattle.std.proofs.Common.{◌≡◌, ℕ, List, None, codes, refl, sym, ap, subst, ◌∙◌, map, []}
 use Rattle.std.specs.Prelude.{unwrap_or, option_and_then}
 use Rattle.std.specs.Prelude.{Result, IfOk}
 use Rattle.std.proofs.lemmas.Result.{IfOk-weaker}

@@ -1,13 +1,13 @@
 -- The command takes the words of which none is refused, and gives each option the value that they give it.
-use Rattle.std.proofs.Common.{◌≡◌, ◌≤◌, ◌<◌, ◌+◌, ℕ, false, length, take, get_or, ◌&&◌, ◌||◌, Bool, true, not, List, [], ◌∷◌, ◌++◌, map, Option, Some, None, is_some, codes, refl, sym, ap, ◌∙◌}
-use Rattle.std.specs.List.{list_all, list_any, fold}
+use Rattle.std.proofs.Common.{◌≡◌, ◌<◌, ◌+◌, ℕ, false, length, take, get_or, ◌&&◌, ◌||◌, Bool, true, not, List, [], ◌∷◌, ◌++◌, map, None, is_some, codes, refl, sym, ap, ◌∙◌}
+use Rattle.std.specs.List.{list_all}
 use Rattle.std.specs.Borrow.{Bor}
 use Rattle.std.proofs.lemmas.List.{take_more}
 use Rattle.clap.specs.Built.{AddsArg}
 use Rattle.clap.specs.declared.builder.arg.Arg.{Arg}
 use Rattle.clap.specs.declared.builder.command.Command.{Command}
 use Rattle.clap.specs.declared.builder.command.Command.TheViews.{out-Command}
-use Rattle.clap.specs.Walk.{Rule, rule_of, Row, Held, Walk, walk, walked, first_of, finished, nothing_held, settled, with_default}
+use Rattle.clap.specs.Walk.{Rule, rule_of, Row, Walk, walk, first_of, finished, nothing_held, settled}
 use Rattle.clap.specs.Simple.{App, built, is_simple, matches_of, entered, names_of, with_rule, on_top, HasMatchesOf, app_of, app_of_fields, new_app}
 use Rattle.clap.specs.Matches.{found_of, first_value}
 use Rattle.clap.specs.declared.parser.matches.ArgMatches.{ArgMatches}
@@ -18,8 +18,8 @@ use Rattle.word_rules.specs.Words.{Text, option_names, is_option, value_of, refu
 use Rattle.word_rules.proofs.ReadLemmas.{reads}
 use Rattle.word_rules.proofs.RangeLemmas.{accepted_words}
 use Rattle.program_words.specs.Command.{options_app, given_rule}
-use Rattle.program_words.proofs.UseLemmas.{Use, plain_rule, rows_of_uses, found_in, is_used, first_is, rule_by_long, rule_by_id, no_defaults}
-use Rattle.program_words.proofs.WalkLemmas.{built_shape, HasOptions, at_rest, Settles, Walks, walks, NamesUses}
+use Rattle.program_words.proofs.UseLemmas.{plain_rule, first_is, rule_by_long, rule_by_id, no_defaults}
+use Rattle.program_words.proofs.WalkLemmas.{built_shape, HasOptions, at_rest, Walks, walks, NamesUses}
 
 -- the command once it is built
 abbrev pub built_app : List Rule → App

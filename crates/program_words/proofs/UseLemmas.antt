@@ -1,10 +1,10 @@
 -- One use of an option that takes one value.
-use Rattle.std.proofs.Common.{◌≡◌, ℕ, ◌&&◌, ◌||◌, Bool, true, false, not, cond, List, [], ◌∷◌, ◌++◌, map, Option, Some, None, is_some, codes, refl, sym, ap, ◌∙◌, append_assoc}
+use Rattle.std.proofs.Common.{◌≡◌, ◌&&◌, ◌||◌, Bool, true, false, not, cond, List, [], ◌∷◌, ◌++◌, map, Option, Some, None, refl, sym, ap, ◌∙◌}
 use Rattle.std.specs.Prelude.{bytes_eq, find, slice_get, option_and_then}
 use Rattle.std.specs.List.{list_any, fold}
 use Rattle.std.proofs.lemmas.List.{map-append}
 use Rattle.clap.specs.declared.parser.matches.ValueSource.TheVariants.{CommandLine}
-use Rattle.clap.specs.Walk.{Row, Rule, has_row, at_row, without, used as used_rows, first_of, arg_by_id, arg_by_long, has_long, reading_by, with_default, more_values}
+use Rattle.clap.specs.Walk.{Row, Rule, has_row, at_row, without, used as used_rows, first_of, arg_by_id, arg_by_long, reading_by, with_default, more_values}
 use Rattle.clap.specs.Simple.{filled}
 use Rattle.clap.specs.Takes.{use_passes}
 use Rattle.word_rules.specs.Words.{Text}

@@ -1,14 +1,14 @@
 -- What `clap` makes of words of which none is refused.
-use Rattle.std.proofs.Common.{◌≡◌, ◌⊎◌, ℕ, ◌&&◌, ◌||◌, Bool, true, false, not, cond, List, [], ◌∷◌, ◌++◌, map, Option, Some, None, is_some, codes, refl, sym, ap, subst, ◌∙◌, append_assoc, inl, inr}
-use Rattle.std.specs.Prelude.{⊤, bytes_eq, option_and_then, nat_lt}
+use Rattle.std.proofs.Common.{◌≡◌, ℕ, ◌&&◌, ◌||◌, Bool, true, false, cond, List, [], ◌∷◌, ◌++◌, Option, Some, None, is_some, codes, refl, sym, ap, subst, ◌∙◌, append_assoc, inl, inr}
+use Rattle.std.specs.Prelude.{⊤, bytes_eq, nat_lt}
 use Rattle.std.proofs.lemmas.List.Folds.{list_any-append}
 use Rattle.std.specs.List.{list_any, fold}
 use Rattle.std.specs.Option.{option_map_or}
-use Rattle.clap.specs.Lexer.{long_of, short_of, strip_byte}
-use Rattle.clap.specs.Walk.{Rule, Row, Held, Walk, Step, next, trailing, Waiting, idle, option, walked, word_met, long_or_other, short_or_plain, long_met, after_flag, after_step, option_word, plain_word, arg_by_id, arg_by_long, settled, settled_rows, used_by_id, has_row, used as used_rows, nothing_held, walk_from, pushed, pending_count, most_values, started}
+use Rattle.clap.specs.Lexer.{long_of, strip_byte}
+use Rattle.clap.specs.Walk.{Rule, Row, Held, Walk, Step, next, trailing, Waiting, idle, option, walked, word_met, long_or_other, short_or_plain, long_met, after_flag, after_step, option_word, plain_word, arg_by_id, arg_by_long, settled, settled_rows, used_by_id, has_row, used as used_rows, pushed, pending_count, most_values, started}
 use Rattle.clap.specs.Simple.{Shape, new_shape}
-use Rattle.clap.specs.Takes.{turn_passes, walk_passes, settle_passes, use_passes, long_passes, flag_word_passes, option_passes, step_passes, bundle_passes}
-use Rattle.word_rules.specs.Words.{Text, is_option, is_allowed, names, value_of, value_or_next}
+use Rattle.clap.specs.Takes.{turn_passes, walk_passes, settle_passes, use_passes, long_passes, flag_word_passes, step_passes, bundle_passes}
+use Rattle.word_rules.specs.Words.{Text, is_option, names, value_of, value_or_next}
 use Rattle.word_rules.proofs.ValueLemmas.{IsBare, bytes_same, same_bytes, allowed_bare, bare_not_long, bare_not_short}
 use Rattle.word_rules.proofs.CountLemmas.{named_on, named_here, names_its_own}
 use Rattle.word_rules.proofs.ReadLemmas.{Reads, IsNewOption, value_step, value_skips}

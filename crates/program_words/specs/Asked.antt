@@ -1,5 +1,5 @@
 -- What is asked for, by what each option is given, and as the program keeps it.
-use Rattle.std.specs.Prelude.{ℕ, List, [], Option, unwrap_or, option_and_then, codes, map, string_bytes}
+use Rattle.std.specs.Prelude.{ℕ, [], Option, unwrap_or, option_and_then, codes, map, string_bytes}
 use Rattle.std.specs.Char.{to_ascii_lowercase}
 use Rattle.step_data.specs.declared.outcome.Options.{Options}
 use Rattle.word_rules.specs.declared.mode.Mode.{Mode}
