@@ -1,0 +1,8 @@
+use Rattle.std.proofs.Common.{◌≡◌, ◌++◌}
+use Rattle.std.specs.Prelude.{string_bytes}
+use Rattle.ladder.specs.Ladder.{sections, declaration}
+use Rattle.ladder.proofs.add_declarations.Given as goal
+
+-- the sections so far
+abbrev pub invariant-loop-j : goal.invariant-loop-j
+invariant-loop-j l = string_bytes l.text ≡ string_bytes l.fn.text ++ sections declaration l.j

@@ -1,0 +1,4 @@
+mod UseLemmas
+mod WalkLemmas
+mod CommandLemmas
+pub mod AskedLemmas

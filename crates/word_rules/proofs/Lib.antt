@@ -1,0 +1,6 @@
+mod NumberLemmas
+pub mod ValueLemmas
+pub mod CountLemmas
+pub mod ReadLemmas
+mod RefusalLemmas
+pub mod RangeLemmas

@@ -1,0 +1,25 @@
+ghost use Rattle.std.specs.Prelude.{◌≡◌};
+ghost use Rattle.word_rules.specs.Words.{mode_named};
+
+/// What the program does.
+#[derive(Clone, Copy, Debug, PartialEq, Eq)]
+pub enum Mode {
+    /// Reads a design and simulates it, the analogue kernel in step with the digital one.
+    Lockstep,
+    /// Simulates a generated design, and writes how many lines of each kind its trace has.
+    Make,
+}
+
+/// The mode of this name.
+#[tactic(auto, unfolding(crate::specs::Words::mode_named))]
+pub fn mode_named(name: &str) -> Option<Mode>
+    ensures { result ≡ mode_named name.now }
+{
+    if name == "lockstep" {
+        Some(Mode::Lockstep)
+    } else if name == "make" {
+        Some(Mode::Make)
+    } else {
+        None
+    }
+}
