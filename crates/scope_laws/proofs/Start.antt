@@ -68,16 +68,16 @@ module _ (objects : Objects) (domain : slice_get objects.enumerations 0 ≡ Some
 
   each : Every Holds predefined
   each =
-      ( record { fits = tt; also = record { kind = t.Boolean; kind_is = refl; range = tt; values = tt } }
-      , record { fits = tt; also = record { kind = t.Bit; kind_is = refl; range = tt; values = tt } }
-      , record { fits = tt; also = record { kind = t.Integer; kind_is = refl; range = tt; values = tt } }
-      , record { fits = tt; also = record { kind = t.Integer; kind_is = refl; range = (refl, refl); values = tt } }
-      , record { fits = tt; also = record { kind = t.Integer; kind_is = refl; range = (refl, refl); values = tt } }
-      , record { fits = tt; also = record { kind = t.Real; kind_is = refl; range = tt; values = tt } }
-      , record { fits = tt; also = record { kind = t.Real; kind_is = refl; range = tt; values = tt } }
-      , record { fits = tt; also = record { kind = t.Real; kind_is = refl; range = tt; values = tt } }
-      , record { fits = tt; also = record { kind = t.Time; kind_is = refl; range = tt; values = tt } }
-      , record { fits = tt; also = record { kind = t.Enumeration 0; kind_is = refl; range = tt; values = some_literals } }
+      ( record { fits = tt; also = record { kind = t.Boolean; kind_is = refl; range = tt; values = tt; indexed = tt } }
+      , record { fits = tt; also = record { kind = t.Bit; kind_is = refl; range = tt; values = tt; indexed = tt } }
+      , record { fits = tt; also = record { kind = t.Integer; kind_is = refl; range = tt; values = tt; indexed = tt } }
+      , record { fits = tt; also = record { kind = t.Integer; kind_is = refl; range = (refl, refl); values = tt; indexed = tt } }
+      , record { fits = tt; also = record { kind = t.Integer; kind_is = refl; range = (refl, refl); values = tt; indexed = tt } }
+      , record { fits = tt; also = record { kind = t.Real; kind_is = refl; range = tt; values = tt; indexed = tt } }
+      , record { fits = tt; also = record { kind = t.Real; kind_is = refl; range = tt; values = tt; indexed = tt } }
+      , record { fits = tt; also = record { kind = t.Real; kind_is = refl; range = tt; values = tt; indexed = tt } }
+      , record { fits = tt; also = record { kind = t.Time; kind_is = refl; range = tt; values = tt; indexed = tt } }
+      , record { fits = tt; also = record { kind = t.Enumeration 0; kind_is = refl; range = tt; values = some_literals; indexed = tt } }
       , record { fits = tt; also = tt }
       , record { fits = refl; also = tt }
       , record { fits = refl; also = tt }
@@ -85,8 +85,8 @@ module _ (objects : Objects) (domain : slice_get objects.enumerations 0 ≡ Some
       , record { fits = refl; also = tt }
       , record { fits = refl; also = tt }
       , record { fits = refl; also = tt }
-      , record { fits = record { kind_is = refl; range = refl }; also = record { kind = t.Real; kind_is = refl; range = tt; values = tt } }
-      , record { fits = record { kind_is = refl; range = refl }; also = record { kind = t.Real; kind_is = refl; range = tt; values = tt } }
+      , record { fits = record { kind_is = refl; range = refl }; also = record { kind = t.Real; kind_is = refl; range = tt; values = tt; indexed = tt } }
+      , record { fits = record { kind_is = refl; range = refl }; also = record { kind = t.Real; kind_is = refl; range = tt; values = tt; indexed = tt } }
       , record { fits = tt; also = tt }
       , record { fits = tt; also = tt }
       , record { fits = tt; also = tt }
