@@ -2,6 +2,7 @@
 use Rattle.std.proofs.Common.{◌≡◌, ◌<◌, ◌≤◌, ◌+◌, ◌-◌, ℕ, ℤ, pos, negsuc, Bool, true, false, if◌then◌else◌, List, Option, Some, None, IfSome, refl, sym, ap, subst, arith}
 use Rattle.std.specs.Prelude.{◌&&◌, ◌||◌, int_le, int_lt, unsigned_abs, nat_lt, IsTrue}
 use Rattle.std.proofs.lemmas.Bool.Decides.{nat_tests}
+use Rattle.ams_tree.specs.declared.expression.Expr.{Expr}
 use Rattle.ams_tree.specs.declared.expression.Name.{Name}
 use Rattle.ams_tree.specs.declared.declaration.Bounds.{Bounds}
 use Rattle.ams_tree.specs.declared.declaration.Direction.{Direction}
@@ -26,7 +27,6 @@ use Rattle.name_scope.specs.declared.thing.Thing.{Thing}
 use Rattle.name_scope.specs.declared.thing.Thing.TheVariants as thing
 use Rattle.name_scope.specs.declared.scope.Scope.{Scope}
 use Rattle.name_scope.specs.Scopes.{lookup}
-use Rattle.elab_meaning.specs.declared.fault.Cause.TheVariants.{Unknown}
 use Rattle.elab_meaning.specs.declared.fault.Notes.{Notes}
 use Rattle.elab_meaning.specs.declared.part.Part.{Part}
 use Rattle.elab_meaning.specs.declared.part.Part.TheVariants.{Kept, Wrong, Hidden}
@@ -37,11 +37,9 @@ use Rattle.elab_meaning.specs.Subtypes.{static_part, holds, bound_value, index_b
 use Rattle.design_meaning.specs.Typed as flat
 use Rattle.design_meaning.specs.Typed.{IsOfType}
 use Rattle.design_rules.specs.Types.{FitsType}
-use Rattle.reading_laws.specs.Growing.{Grows}
-use Rattle.reading_laws.proofs.Growing.{grows_same, grows_on, grows_noted}
 use Rattle.typed_laws.specs.Fitting.{FitsValue}
 use Rattle.initial_laws.specs.Initial.{HasValues}
-use Rattle.part_laws.specs.Parts.{OnKept, KeepsPart}
+use Rattle.part_laws.specs.Parts.{OnKept}
 use Rattle.part_laws.proofs.Parts.{same_type_is, judged_kept, both_kept, where_kept}
 use Rattle.scope_laws.specs.Holds.{HasNoFaults, IsIndexed, SubtypeFits, ScopeHolds}
 use Rattle.scope_laws.specs.Laws.{ThingHolds}
@@ -49,6 +47,7 @@ use Rattle.scope_laws.proofs.Scopes.{each_thing}
 use Rattle.asked_laws.specs.Asked.{HasValue}
 use Rattle.asked_laws.proofs.Notes.{faults_before}
 use Rattle.asked_laws.proofs.Asked.{static_keeps}
+use Rattle.subtype_laws.proofs.Growth.{grows_static}
 
 -- ---- bounds of an index
 
@@ -220,56 +219,40 @@ module _ (objects : flat.Scope) where
 
 -- ---- the whole
 
-found_keeps : (R : Thing → Type 0) (x : Name) (o : Option Thing) (n : Notes) → IfSome o R → KeepsPart Thing HasNoFaults R n (found_thing x o n)
-found_keeps R x None n h = record { grows = grows_noted x.place (Unknown x.number) n; right = λ f. tt }
-found_keeps R x (Some thing.Faulty) n h = record { grows = grows_same n; right = λ f. tt }
-found_keeps R x (Some y) n h = record { grows = grows_same n; right = λ f. h }
+found_kept : (R : Thing → Type 0) (x : Name) (o : Option Thing) (n : Notes) → IfSome o R → OnKept R (found_thing x o n).1
+found_kept R x None n h = tt
+found_kept R x (Some thing.Faulty) n h = tt
+found_kept R x (Some y) n h = h
 
 module _ (objects : flat.Scope) (variables : List Variable) (parameters : List ℕ) (texts : List (List ℕ)) (scope : Scope) (holding : ScopeHolds objects variables parameters scope) where
   -- what a name stands for, where it is one
-  pub thing_keeps : (x : Name) (n : Notes) → KeepsPart Thing HasNoFaults (ThingHolds objects variables parameters) n (found_thing x (lookup scope x.number) n)
-  thing_keeps x n = found_keeps (ThingHolds objects variables parameters) x (lookup scope x.number) n (each_thing objects variables parameters scope holding x.number)
+  pub thing_kept : (x : Name) (n : Notes) → OnKept (ThingHolds objects variables parameters) (found_thing x (lookup scope x.number) n).1
+  thing_kept x n = found_kept (ThingHolds objects variables parameters) x (lookup scope x.number) n (each_thing objects variables parameters scope holding x.number)
 
-  index_keeps : (r : Option Range) (n : Notes) → KeepsPart (Option Subtype) HasNoFaults (λ s. IfSome s (SubtypeFits objects.enumerations)) n (index_subtype texts scope r n)
-  index_keeps None n = record { grows = grows_same n; right = λ f. tt }
-  index_keeps (Some r) n =
+  asked_right : (x : Expr) (n : Notes) → HasNoFaults (static_part texts scope x n).0 → OnKept (HasValue objects) (static_part texts scope x n).1
+  asked_right x n = (static_keeps objects variables parameters texts scope holding x n).right
+
+  index_right : (r : Option Range) (n : Notes) → HasNoFaults (index_subtype texts scope r n).0 → OnKept (λ s. IfSome s (SubtypeFits objects.enumerations)) (index_subtype texts scope r n).1
+  index_right None n f = tt
+  index_right (Some r) n f =
       let left = static_part texts scope r.left n in
       let right = static_part texts scope r.right left.0 in
-      let l = static_keeps objects variables parameters texts scope holding r.left n in
-      let m = static_keeps objects variables parameters texts scope holding r.right left.0 in
-      record {
-        grows = grows_on n left.0 right.0 l.grows m.grows;
-        right = λ f. index_kept objects r.direction left.1 right.1 (l.right (faults_before left.0 right.0 m.grows f)) (m.right f);
-      }
+      index_kept objects r.direction left.1 right.1 (asked_right r.left n (faults_before left.0 right.0 (grows_static texts scope r.right left.0) f)) (asked_right r.right left.0 f)
 
-  bounds_keep : (r : Option Bounds) (s : Part Subtype) (n : Notes) → (HasNoFaults n → OnKept (SubtypeFits objects.enumerations) s)
-      → KeepsPart Subtype HasNoFaults (SubtypeFits objects.enumerations) n (in_bounds texts scope r s n)
-  bounds_keep None s n h = record { grows = grows_same n; right = h }
-  bounds_keep (Some r) s n h =
+  bounds_right : (r : Option Bounds) (s : Part Subtype) (n : Notes) → (HasNoFaults n → OnKept (SubtypeFits objects.enumerations) s)
+      → HasNoFaults (in_bounds texts scope r s n).0 → OnKept (SubtypeFits objects.enumerations) (in_bounds texts scope r s n).1
+  bounds_right None s n h f = h f
+  bounds_right (Some r) s n h f =
       let low = static_part texts scope r.low n in
       let high = static_part texts scope r.high low.0 in
-      let l = static_keeps objects variables parameters texts scope holding r.low n in
-      let m = static_keeps objects variables parameters texts scope holding r.high low.0 in
-      record {
-        grows = grows_on n low.0 high.0 l.grows m.grows;
-        right = λ f.
-            let before : HasNoFaults low.0 = faults_before low.0 high.0 m.grows f in
-            narrowed_by_kept objects s low.1 high.1 (h (faults_before n low.0 l.grows before)) (l.right before) (m.right f);
-      }
+      let before : HasNoFaults low.0 = faults_before low.0 high.0 (grows_static texts scope r.high low.0) f in
+      narrowed_by_kept objects s low.1 high.1 (h (faults_before n low.0 (grows_static texts scope r.low n) before)) (asked_right r.low n before) (asked_right r.high low.0 f)
 
-  pub subtype_keeps : (i : SubtypeIndication) (n : Notes) → KeepsPart Subtype HasNoFaults (SubtypeFits objects.enumerations) n (subtype texts scope i n)
-  subtype_keeps i n =
+  pub subtype_right : (i : SubtypeIndication) (n : Notes) → HasNoFaults (subtype texts scope i n).0 → OnKept (SubtypeFits objects.enumerations) (subtype texts scope i n).1
+  subtype_right i n =
       let mark = found_thing i.mark (lookup scope i.mark.number) n in
       let index = index_subtype texts scope i.index mark.0 in
-      let whole = subtype texts scope i n in
-      let m = thing_keeps i.mark n in
-      let x = index_keeps i.index mark.0 in
-      let b =
-      bounds_keep i.bounds (both marked mark.1 index.1) index.0
+      bounds_right i.bounds (both marked mark.1 index.1) index.0
       (λ f.
       both_kept Thing (Option Subtype) Subtype (ThingHolds objects variables parameters) (λ s. IfSome s (SubtypeFits objects.enumerations)) (SubtypeFits objects.enumerations) marked
-      (marked_kept objects variables parameters) mark.1 index.1 (m.right (faults_before mark.0 index.0 x.grows f)) (x.right f)) in
-      record {
-        grows = grows_on n mark.0 whole.0 m.grows (grows_on mark.0 index.0 whole.0 x.grows b.grows);
-        right = b.right;
-      }
+      (marked_kept objects variables parameters) mark.1 index.1 (thing_kept i.mark n) (index_right i.index mark.0 f))

@@ -23,17 +23,17 @@ use Rattle.elab_meaning.specs.Declarations.{range_part, value_or_leftmost}
 use Rattle.design_meaning.specs.Typed as flat
 use Rattle.design_meaning.specs.Typed.{IsOfType}
 use Rattle.design_rules.specs.Types.{FitsType, IsDeclaredAs}
-use Rattle.reading_laws.proofs.Growing.{grows_same, grows_on}
 use Rattle.typed_laws.specs.Fitting.{FitsValue}
 use Rattle.initial_laws.proofs.Initial.{initial_values_fit}
-use Rattle.part_laws.specs.Parts.{OnKept, KeepsPart}
+use Rattle.part_laws.specs.Parts.{OnKept}
 use Rattle.part_laws.proofs.Parts.{same_type_is, judged_kept, both_kept, where_kept}
 use Rattle.scope_laws.specs.Holds.{HasNoFaults, SubtypeFits, ScopeHolds}
 use Rattle.asked_laws.specs.Asked.{HasValue}
 use Rattle.asked_laws.proofs.Notes.{faults_before}
 use Rattle.asked_laws.proofs.Asked.{static_keeps}
 use Rattle.subtype_laws.specs.Subtypes.{ValuedFits, SubtypesFit}
-use Rattle.subtype_laws.proofs.Indications.{subtype_keeps}
+use Rattle.subtype_laws.proofs.Growth.{grows_subtype, grows_initial, grows_valued}
+use Rattle.subtype_laws.proofs.Indications.{subtype_right}
 
 and_left : (a b : Bool) → (a && b) ≡ true → a ≡ true
 and_left true b h = refl
@@ -96,25 +96,18 @@ module _ (objects : flat.Scope) where
 -- ---- the whole
 
 module _ (objects : flat.Scope) (variables : List Variable) (parameters : List ℕ) (texts : List (List ℕ)) (scope : Scope) (holding : ScopeHolds objects variables parameters scope) where
-  pub initial_keeps : (s : Part Subtype) (x : Option Expr) (n : Notes) → (HasNoFaults n → OnKept (SubtypeFits objects.enumerations) s)
-      → KeepsPart Valued HasNoFaults (ValuedFits objects.enumerations) n (initial texts scope s x n)
-  initial_keeps s None n h =
-      record { grows = grows_same n; right = λ f. judged_kept Subtype Valued (Fits objects) (Valid objects) default (default_kept objects) s (h f) }
-  initial_keeps s (Some x) n h =
+  pub initial_right : (s : Part Subtype) (x : Option Expr) (n : Notes) → (HasNoFaults n → OnKept (SubtypeFits objects.enumerations) s)
+      → HasNoFaults (initial texts scope s x n).0 → OnKept (ValuedFits objects.enumerations) (initial texts scope s x n).1
+  initial_right s None n h f = judged_kept Subtype Valued (Fits objects) (Valid objects) default (default_kept objects) s (h f)
+  initial_right s (Some x) n h f =
       let value = static_part texts scope x n in
       let v = static_keeps objects variables parameters texts scope holding x n in
-      record {
-        grows = v.grows;
-        right = λ f. both_kept Subtype Asked Valued (Fits objects) (HasValue objects) (Valid objects) written (written_kept objects) s value.1 (h (faults_before n value.0 v.grows f)) (v.right f);
-      }
+      both_kept Subtype Asked Valued (Fits objects) (HasValue objects) (Valid objects) written (λ t a. written_kept objects t a) s value.1 (h (faults_before n value.0 v.grows f)) (v.right f)
 
-  pub valued_keeps : (i : SubtypeIndication) (x : Option Expr) (n : Notes) → KeepsPart Valued HasNoFaults (ValuedFits objects.enumerations) n (valued texts scope i x n)
-  valued_keeps i x n =
+  pub valued_right : (i : SubtypeIndication) (x : Option Expr) (n : Notes) → HasNoFaults (valued texts scope i x n).0 → OnKept (ValuedFits objects.enumerations) (valued texts scope i x n).1
+  valued_right i x n =
       let s = subtype texts scope i n in
-      let whole = valued texts scope i x n in
-      let k = subtype_keeps objects variables parameters texts scope holding i n in
-      let v = initial_keeps s.1 x s.0 k.right in
-      record { grows = grows_on n s.0 whole.0 k.grows v.grows; right = v.right }
+      initial_right s.1 x s.0 (subtype_right objects variables parameters texts scope holding i n)
 
 -- ---- what is declared with it
 
@@ -133,8 +126,11 @@ valued_declared sizes given h =
 
 pub subtypes_fit : SubtypesFit
 subtypes_fit = record {
-  subtypes = λ objects variables parameters texts scope i n holding. subtype_keeps objects variables parameters texts scope holding i n;
-  initials = λ objects variables parameters texts scope s x n holding h. initial_keeps objects variables parameters texts scope holding s x n (λ f. h);
-  values = λ objects variables parameters texts scope i x n holding. valued_keeps objects variables parameters texts scope holding i x n;
+  subtypes = λ objects variables parameters texts scope i n holding.
+      record { grows = grows_subtype texts scope i n; right = subtype_right objects variables parameters texts scope holding i n };
+  initials = λ objects variables parameters texts scope s x n holding h.
+      record { grows = grows_initial texts scope s x n; right = initial_right objects variables parameters texts scope holding s x n (λ f. h) };
+  values = λ objects variables parameters texts scope i x n holding.
+      record { grows = grows_valued texts scope i x n; right = valued_right objects variables parameters texts scope holding i x n };
   declared = valued_declared;
 }
