@@ -21,7 +21,7 @@ use Rattle.elab_meaning.specs.Declarations.{range_part}
 use Rattle.design_meaning.specs.Typed as flat
 use Rattle.design_rules.specs.Types.{FitsType, IsDeclared, IsVisible}
 use Rattle.reading_laws.specs.Growing.{Extends}
-use Rattle.typed_laws.specs.Fitting.{FitsThing, ScopeFits}
+use Rattle.typed_laws.specs.Fitting.{ScopeFits}
 use Rattle.initial_laws.specs.Initial.{HasValues}
 
 -- no rule is broken so far
