@@ -1,6 +1,6 @@
 -- The steps of reading an expression whose value is asked before the run.
 use Rattle.std.proofs.Common.{◌≡◌, ℕ, Bool, true, false, if◌then◌else◌, List, [], ◌∷◌, Option, Some, None, IfSome, Result, Ok, Err, refl, subst, ap, sym, arith}
-use Rattle.std.specs.Prelude.{◌&&◌, ℤ}
+use Rattle.std.specs.Prelude.{◌&&◌, ◌-◌, ◌/◌, ◌%◌, ◌^◌, nat_eq, ℤ, pos, int_lt, unsigned_abs}
 use Rattle.std.specs.List.{All}
 use Rattle.fix_core.specs.declared.NumFault.{NumFault}
 use Rattle.ams_token.specs.declared.token.Place.{Place}
@@ -40,7 +40,7 @@ use Rattle.elab_meaning.specs.declared.typed.Surrounding.TheVariants as surround
 use Rattle.elab_meaning.specs.declared.typed.Typed.{Typed}
 use Rattle.elab_meaning.specs.Kinds.{as_kind, unary_kind, binary_kind, is_vector, same_kind}
 use Rattle.elab_meaning.specs.Notes.{noted, changing, text_of}
-use Rattle.elab_meaning.specs.Values.{answered, number, whole, unary_value, together, unless_decided, binary_value, joined_value, call_of, call_value, bit_of, element_of, element_value}
+use Rattle.elab_meaning.specs.Values.{answered, number, whole, unary_value, together, unless_decided, binary_value, joined_value, call_of, call_value, places_by, bit_of, element_of, element_value}
 use Rattle.elab_meaning.specs.Literals.{in_range, number_literal, content_literal, time_literal, scaled_at, time_at, scale_of, number_at}
 use Rattle.elab_meaning.specs.Names.{now_at, constant, named, function_at, vector_at, element_at, element_of_name, indexed, applied, call_with, call_at, event_at, no_event, event_in, dot, dot_at, reference_at}
 use Rattle.elab_meaning.specs.Expressions.{prefixed, unary_at, joined, binary_at, parenthesized}
@@ -131,16 +131,17 @@ call_made f Faulty h = tt
 call_made f Later h = h
 call_made f Changing h = h
 
+choice_made : (low high : Bool) (v : Val) → IsMade (if low then Faulty else (if high then Known v else Faulty))
+choice_made true high v = tt
+choice_made false true v = tt
+choice_made false false v = tt
+
 bit_made : (length content : ℕ) (place : ℤ) → IsMade (bit_of length content place)
-bit_made length content place = go _ _
-  where
-    go : (low high : Bool) → IsMade (if low then Faulty else (if high then Known (val.Bit _) else Faulty))
-    go true high = tt
-    go false true = tt
-    go false false = tt
+bit_made length content place =
+    choice_made (int_lt place (pos 0)) (int_lt place (pos length)) (val.Bit (nat_eq (content / 2 ^ (length - 1 - unsigned_abs place) % 2) 1))
 
 element_of_made : (range : IndexRange) (a : Val) (i : StaticValue) → IsMade i → IsMade (element_of range a i)
-element_of_made range (val.Bits length content) (Known (val.Int i)) h = bit_made length content _
+element_of_made range (val.Bits length content) (Known (val.Int i)) h = bit_made length content (places_by range.direction (pos range.left) i)
 element_of_made range _ _ h = tt
 
 element_made : (k : ValueType) (c : SubtypeConstraint) (v i : StaticValue) → is_vector (Of k) ≡ true → IsIndexed k c → IsMade v → IsMade i → IsMade (element_value c v i)
