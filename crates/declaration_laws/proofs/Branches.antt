@@ -32,7 +32,7 @@ use Rattle.asked_laws.proofs.Notes.{faults_before}
 use Rattle.subtype_laws.proofs.Growth.{grows_found}
 use Rattle.subtype_laws.proofs.Indications.{thing_kept}
 use Rattle.declaration_laws.specs.Books.{BookHolds, KeepsBook}
-use Rattle.declaration_laws.proofs.Steps.{rest_same, rest_on, Keeps, given, book_on, Holds, declared_keeps, faulty_keeps, notes_keep, each_of_keeps, grows_closed, PartRight, declaring_keeps}
+use Rattle.declaration_laws.proofs.Steps.{rest_same, rest_on, Keeps, weaker, given, book_on, Holds, declared_keeps, faulty_keeps, notes_keep, each_of_keeps, grows_closed, PartRight, declaring_keeps}
 use Rattle.declaration_laws.proofs.Objects.{IsNewQuantity, quantity_keeps}
 
 module _ (final : Objects) where
@@ -93,17 +93,14 @@ module _ (final : Objects) where
 
   -- ---- branch quantities
 
-  weaker : (C D : Type 0) (a b : Book) → (C → D) → Keeps final D a b → Keeps final C a b
-  weaker C D a b g k = record { grows = k.grows; stands = k.stands; leaves = k.leaves; right = λ c. k.right (g c) }
-
   across_keeps : (texts : List (List ℕ)) (found : Terminal × Terminal) (x : Name) (b : Book) → Keeps final (AreEnds found) b (across_of texts found x b)
   across_keeps texts found x b =
-      weaker (AreEnds found) (IsNewQuantity final (flat.Across found.0 found.1) (pos 0)) b (across_of texts found x b) (λ c. record { terminals = (c.plus, c.minus); number = omega arith })
+      weaker final (AreEnds found) (IsNewQuantity final (flat.Across found.0 found.1) (pos 0)) b (across_of texts found x b) (λ c. record { terminals = (c.plus, c.minus); number = omega arith })
       (quantity_keeps final texts (flat.Across found.0 found.1) class.Across (pos 0) x b)
 
   through_keeps : (texts : List (List ℕ)) (found : Terminal × Terminal) (x : Name) (b : Book) → Keeps final (AreEnds found) b (through_of texts found x b)
   through_keeps texts found x b =
-      weaker (AreEnds found) (IsNewQuantity final (flat.Through found.0 found.1) (pos 0)) b (through_of texts found x b) (λ c. record { terminals = (c.plus, c.minus); number = omega arith })
+      weaker final (AreEnds found) (IsNewQuantity final (flat.Through found.0 found.1) (pos 0)) b (through_of texts found x b) (λ c. record { terminals = (c.plus, c.minus); number = omega arith })
       (quantity_keeps final texts (flat.Through found.0 found.1) class.Through (pos 0) x b)
 
   quantities_keep : (texts : List (List ℕ)) (place : Place) (across through : List Name) (found : Notes × Part (Terminal × Terminal)) (b : Book)

@@ -110,7 +110,7 @@ module _ (final : Objects) where
 
   -- ---- constants
 
-  constant_fits : (v : Valued) → Valid v → FitsValue (equation_scope final) v.subtype.kind (constant_value v.subtype.kind v.value)
+  pub constant_fits : (v : Valued) → Valid v → FitsValue (equation_scope final) v.subtype.kind (constant_value v.subtype.kind v.value)
   constant_fits v c =
       subst (λ (k : Kind). FitsValue (equation_scope final) k (constant_value k v.value)) (sym c.subtype.kind_is)
       (subst (λ (o : Option Val). FitsValue (equation_scope final) (Of c.subtype.kind) o) (sym c.value_is) c.typed)

@@ -94,6 +94,9 @@ module _ (final : Objects) where
   pub given : (C : Type 0) (a b : Book) → Keeps C a b → C → KeepsBook final a b
   given C a b k c = record { grows = k.grows; stands = k.stands; leaves = k.leaves; right = k.right c }
 
+  pub weaker : (C D : Type 0) (a b : Book) → (C → D) → Keeps D a b → Keeps C a b
+  weaker C D a b g k = record { grows = k.grows; stands = k.stands; leaves = k.leaves; right = λ c. k.right (g c) }
+
   pub book_on : (a b c : Book) → KeepsBook final a b → KeepsBook final b c → KeepsBook final a c
   book_on a b c p q = given (Unit {0}) a c (keeps_on (Unit {0}) a b c (always (Unit {0}) a b p) (always (Unit {0}) b c q)) tt
 
@@ -154,16 +157,13 @@ module _ (final : Objects) where
   abbrev pub PartRight : (A : Type 0) → (A → Type 0) → Notes × Part A → Book → Type 0
   PartRight A R found b = BookHolds final b → HasNoFaults found.0 → OnKept R found.1
 
-  pub declaring_keeps : (A : Type 0) (R : A → Type 0) (rule : A → Name → Book → Book) → ((a : A) (x : Name) (b : Book) → Keeps (R a) b (rule a x b))
-      → (place : Place) (names : List Name) (found : Notes × Part A) (b : Book) → Grows b.notes found.0 → PartRight A R found b
-      → KeepsBook final b (declaring_each rule place names found b)
-  declaring_keeps A R rule h place names found b g part =
+  -- behind a part whose faults are noted at its place
+  pub behind_part : (A : Type 0) (R : A → Type 0) (place : Place) (found : Notes × Part A) (b behind : Book) → Grows b.notes found.0 → PartRight A R found b
+      → Keeps (OnKept R found.1) (with_notes (closed place found.1 found.0) b) behind → KeepsBook final b behind
+  behind_part A R place found b behind g part rest =
       let here = closed place found.1 found.0 in
-      let start = with_notes here b in
       let goes : Grows found.0 here = grows_closed A place found.1 found.0 in
       let first = notes_keep here b (grows_on b.notes found.0 here g goes) in
-      let behind = each_of rule found.1 names start in
-      let rest = each_of_keeps A R rule h found.1 names start in
       record {
         grows = grows_on b.notes here behind.notes first.grows rest.grows;
         stands = rest.stands;
@@ -172,3 +172,10 @@ module _ (final : Objects) where
             let before : HasNoFaults here = faults_before here behind.notes rest.grows f in
             rest.right (part k (faults_before found.0 here goes before)) f s (first.right before (scopes_hold.on b.objects behind.objects final rest.stands s) k);
       }
+
+  pub declaring_keeps : (A : Type 0) (R : A → Type 0) (rule : A → Name → Book → Book) → ((a : A) (x : Name) (b : Book) → Keeps (R a) b (rule a x b))
+      → (place : Place) (names : List Name) (found : Notes × Part A) (b : Book) → Grows b.notes found.0 → PartRight A R found b
+      → KeepsBook final b (declaring_each rule place names found b)
+  declaring_keeps A R rule h place names found b g part =
+      let here = closed place found.1 found.0 in
+      behind_part A R place found b (declaring_each rule place names found b) g part (each_of_keeps A R rule h found.1 names (with_notes here b))
