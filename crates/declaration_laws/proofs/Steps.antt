@@ -57,7 +57,7 @@ last_below A xs y all e =
 pub rest_same : (o : Objects) → LeavesRest o o
 rest_same o = record { equations = refl; dots = refl; thresholds = refl; processes = refl; instances = refl; ramps = refl }
 
-rest_on : (a b c : Objects) → LeavesRest a b → LeavesRest b c → LeavesRest a c
+pub rest_on : (a b c : Objects) → LeavesRest a b → LeavesRest b c → LeavesRest a c
 rest_on a b c p q =
     record {
       equations = q.equations ∙ p.equations;

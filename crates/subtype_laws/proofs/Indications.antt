@@ -1,6 +1,6 @@
 -- Subtype indications.
-use Rattle.std.proofs.Common.{◌≡◌, ◌<◌, ◌≤◌, ◌+◌, ◌-◌, ℕ, ℤ, pos, negsuc, Bool, true, false, if◌then◌else◌, List, Option, Some, None, IfSome, refl, sym, ap, subst, arith}
-use Rattle.std.specs.Prelude.{◌&&◌, ◌||◌, int_le, int_lt, unsigned_abs, nat_lt, IsTrue}
+use Rattle.std.proofs.Common.{◌≡◌, ◌<◌, ◌≤◌, ℕ, ℤ, pos, negsuc, Bool, true, false, if◌then◌else◌, List, Option, Some, None, IfSome, refl, subst, arith}
+use Rattle.std.specs.Prelude.{◌&&◌, ◌||◌, int_le, int_lt, unsigned_abs, nat_lt}
 use Rattle.std.proofs.lemmas.Bool.Decides.{nat_tests}
 use Rattle.ams_tree.specs.declared.expression.Expr.{Expr}
 use Rattle.ams_tree.specs.declared.expression.Name.{Name}
@@ -14,14 +14,11 @@ use Rattle.ams_value.specs.declared.val.Val.{Val}
 use Rattle.ams_value.specs.declared.val.Val.TheVariants as val
 use Rattle.ams_value.specs.declared.value_type.ValueType.{ValueType}
 use Rattle.ams_value.specs.declared.value_type.ValueType.TheVariants as t
-use Rattle.ams_value.specs.Types.{type_of}
-use Rattle.flat_expr.specs.declared.subtype.Constraint.{Constraint}
 use Rattle.flat_expr.specs.declared.subtype.Constraint.TheVariants as range
 use Rattle.flat_design.specs.declared.objects.Variable.{Variable}
 use Rattle.name_scope.specs.declared.thing.Kind.{Kind}
 use Rattle.name_scope.specs.declared.thing.Kind.TheVariants.{Of, Vector}
 use Rattle.name_scope.specs.declared.thing.Subtype.{Subtype}
-use Rattle.name_scope.specs.declared.thing.SubtypeConstraint.{SubtypeConstraint}
 use Rattle.name_scope.specs.declared.thing.SubtypeConstraint.TheVariants as constraint
 use Rattle.name_scope.specs.declared.thing.Thing.{Thing}
 use Rattle.name_scope.specs.declared.thing.Thing.TheVariants as thing
@@ -31,14 +28,13 @@ use Rattle.elab_meaning.specs.declared.fault.Notes.{Notes}
 use Rattle.elab_meaning.specs.declared.part.Part.{Part}
 use Rattle.elab_meaning.specs.declared.part.Part.TheVariants.{Kept, Wrong, Hidden}
 use Rattle.elab_meaning.specs.declared.typed.Asked.{Asked}
-use Rattle.elab_meaning.specs.Kinds.{same_type, same_kind}
-use Rattle.elab_meaning.specs.Parts.{where_true, both, found_thing}
-use Rattle.elab_meaning.specs.Subtypes.{static_part, holds, bound_value, index_bound, length_of, vector_of, bounded, given_index, indexed, ranged_index, index_subtype, marked, is_ranged, ranged, range_of, narrowed, wrong_beside, narrowed_by, in_bounds, subtype}
+use Rattle.elab_meaning.specs.Kinds.{same_kind}
+use Rattle.elab_meaning.specs.Parts.{both, found_thing}
+use Rattle.elab_meaning.specs.Subtypes.{static_part, holds, bound_value, index_bound, length_of, vector_of, bounded, given_index, indexed, ranged_index, index_subtype, marked, is_ranged, range_of, narrowed, wrong_beside, narrowed_by, in_bounds, subtype}
 use Rattle.design_meaning.specs.Typed as flat
 use Rattle.design_meaning.specs.Typed.{IsOfType}
 use Rattle.design_rules.specs.Types.{FitsType}
 use Rattle.typed_laws.specs.Fitting.{FitsValue}
-use Rattle.initial_laws.specs.Initial.{HasValues}
 use Rattle.part_laws.specs.Parts.{OnKept}
 use Rattle.part_laws.proofs.Parts.{same_type_is, judged_kept, both_kept, where_kept}
 use Rattle.scope_laws.specs.Holds.{HasNoFaults, IsIndexed, SubtypeFits, ScopeHolds}

@@ -22,7 +22,7 @@ use Rattle.elab_meaning.specs.Subtypes.{static_part, holds, holds_known, suits, 
 use Rattle.elab_meaning.specs.Declarations.{range_part, value_or_leftmost}
 use Rattle.design_meaning.specs.Typed as flat
 use Rattle.design_meaning.specs.Typed.{IsOfType}
-use Rattle.design_rules.specs.Types.{FitsType, IsDeclaredAs}
+use Rattle.design_rules.specs.Types.{IsDeclaredAs}
 use Rattle.typed_laws.specs.Fitting.{FitsValue}
 use Rattle.initial_laws.proofs.Initial.{initial_values_fit}
 use Rattle.part_laws.specs.Parts.{OnKept}
