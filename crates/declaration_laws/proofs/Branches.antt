@@ -1,5 +1,5 @@
 -- Branches and natures.
-use Rattle.std.proofs.Common.{◌≡◌, ◌<◌, ℕ, ℤ, pos, Bool, true, false, if◌then◌else◌, List, [], Option, Some, None, arith}
+use Rattle.std.proofs.Common.{ℕ, pos, Bool, true, false, if◌then◌else◌, List, [], Option, Some, None, arith}
 use Rattle.std.specs.Prelude.{nat_eq, ◌+◌}
 use Rattle.ams_token.specs.declared.token.Place.{Place}
 use Rattle.ams_tree.specs.declared.expression.Name.{Name}
@@ -17,8 +17,8 @@ use Rattle.elab_meaning.specs.declared.fault.Notes.{Notes}
 use Rattle.elab_meaning.specs.declared.part.Part.{Part}
 use Rattle.elab_meaning.specs.declared.part.Part.TheVariants.{Kept, Wrong, Hidden}
 use Rattle.elab_meaning.specs.Notes.{noted}
-use Rattle.elab_meaning.specs.Parts.{judged, both, closed, found_thing}
-use Rattle.elab_meaning.specs.Declarations.{declared, with_notes, each_of, faulty, declaring_each, new_nature, with_nature, nature_of_part, nature, terminal_of, terminal_named, matched, matched_ends, ends, to_reference, branch, across_of, through_of, branch_quantities}
+use Rattle.elab_meaning.specs.Parts.{both, closed, found_thing}
+use Rattle.elab_meaning.specs.Declarations.{declared, with_notes, faulty, declaring_each, new_nature, with_nature, nature_of_part, nature, terminal_of, terminal_named, matched, matched_ends, ends, to_reference, branch, across_of, through_of, branch_quantities}
 use Rattle.design_rules.specs.Types.{equation_scope}
 use Rattle.design_rules.specs.Design.{IsTerminal}
 use Rattle.reading_laws.specs.Growing.{Grows}
@@ -26,7 +26,7 @@ use Rattle.reading_laws.proofs.Growing.{grows_same, grows_on, grows_noted}
 use Rattle.typed_laws.specs.Fitting.{FitsTerminal}
 use Rattle.part_laws.specs.Parts.{OnKept}
 use Rattle.part_laws.proofs.Parts.{judged_kept, both_kept}
-use Rattle.scope_laws.specs.Holds.{HasNoFaults, ScopeHolds}
+use Rattle.scope_laws.specs.Holds.{HasNoFaults}
 use Rattle.scope_laws.proofs.Scopes.{scopes_hold}
 use Rattle.asked_laws.proofs.Notes.{faults_before}
 use Rattle.subtype_laws.proofs.Growth.{grows_found}

@@ -1,5 +1,5 @@
 -- Enumeration types.
-use Rattle.std.proofs.Common.{◌≡◌, ◌<◌, ◌≤◌, ◌+◌, ℕ, zero, suc, Bool, true, false, if◌then◌else◌, List, [], ◌∷◌, ◌++◌, length, length-append, map, Option, Some, None, refl, sym, ap, ◌∙◌, subst, arith}
+use Rattle.std.proofs.Common.{◌≡◌, ◌<◌, ◌≤◌, ◌+◌, ℕ, Bool, true, false, if◌then◌else◌, List, [], ◌∷◌, ◌++◌, length, length-append, map, Some, None, refl, sym, ◌∙◌, subst, arith}
 use Rattle.std.specs.Prelude.{nat_lt, nat_le, ◌&&◌, get_or}
 use Rattle.std.specs.List.{list_all, slice_get, All}
 use Rattle.std.proofs.lemmas.Bool.Decides.{nat_tests}
@@ -25,8 +25,8 @@ use Rattle.design_rules.specs.Design.{IsEnumeration, literal_limit, enumeration_
 use Rattle.reading_laws.proofs.Growing.{grows_same, grows_noted}
 use Rattle.scope_laws.specs.Holds.{StandsBefore}
 use Rattle.scope_laws.proofs.Scopes.{scopes_hold}
-use Rattle.declaration_laws.specs.Books.{BookHolds, KeepsBook}
-use Rattle.declaration_laws.proofs.Steps.{extends_same, extends_one, last_at, Keeps, keeps_same, keeps_on, always, given, book_on, declared_keeps, faulty_keeps, notes_keep, each_faulty}
+use Rattle.declaration_laws.specs.Books.{KeepsBook}
+use Rattle.declaration_laws.proofs.Steps.{extends_same, extends_one, last_at, Keeps, keeps_same, keeps_on, given, book_on, declared_keeps, faulty_keeps, notes_keep, each_faulty}
 
 and_left : (a b : Bool) → (a && b) ≡ true → a ≡ true
 and_left true b h = refl

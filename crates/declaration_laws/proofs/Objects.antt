@@ -1,7 +1,7 @@
 -- Signals, constants, nodes, quantities, types.
-use Rattle.std.proofs.Common.{◌≡◌, ◌<◌, ◌≤◌, ℕ, ℤ, pos, Bool, true, false, List, [], ◌∷◌, ◌++◌, length, map, Option, Some, None, IfSome, refl, sym, ap, ◌∙◌, subst, arith}
-use Rattle.std.specs.Prelude.{unsigned_abs, nat_le, IsTrue}
-use Rattle.std.specs.List.{slice_get, All}
+use Rattle.std.proofs.Common.{◌≡◌, ◌≤◌, ℕ, ℤ, pos, true, List, [], ◌∷◌, ◌++◌, length, Option, Some, None, refl, sym, subst, arith}
+use Rattle.std.specs.Prelude.{unsigned_abs, nat_le}
+use Rattle.std.specs.List.{slice_get}
 use Rattle.std.proofs.lemmas.Bool.Decides.{nat_tests}
 use Rattle.std.proofs.lemmas.List.Elements.{All-push}
 use Rattle.fix_core.specs.Units.{most_units}
@@ -16,7 +16,6 @@ use Rattle.ams_value.specs.declared.value_type.ValueType.TheVariants as t
 use Rattle.flat_design.specs.declared.objects.Signal.{Signal}
 use Rattle.flat_design.specs.declared.objects.Quantity.{Quantity}
 use Rattle.flat_design.specs.declared.objects.QuantityKind.{QuantityKind}
-use Rattle.flat_design.specs.declared.objects.QuantityKind.TheVariants as flat
 use Rattle.flat_design.specs.declared.objects.Node.{Node}
 use Rattle.flat_design.specs.declared.objects.Enumeration.{Enumeration}
 use Rattle.flat_design.specs.declared.objects.Objects.{Objects}
@@ -38,23 +37,21 @@ use Rattle.elab_meaning.specs.declared.typed.Valued.{Valued}
 use Rattle.elab_meaning.specs.Kinds.{same_kind, value_type}
 use Rattle.elab_meaning.specs.Parts.{judged, found_thing}
 use Rattle.elab_meaning.specs.Subtypes.{subtype, initial}
-use Rattle.elab_meaning.specs.Declarations.{path_of, range_part, value_or_leftmost, with_objects, with_signal, signal_of, constant_value, constant_of, constant, nature_of, nature_named, node, with_quantity, quantity_of, initial_real, free_of, free_value, free_quantity, type_of_subtype}
-use Rattle.design_meaning.specs.Typed as typed
+use Rattle.elab_meaning.specs.Declarations.{path_of, with_objects, with_signal, signal_of, constant_value, constant_of, constant, nature_of, nature_named, node, with_quantity, quantity_of, initial_real, free_of, free_value, free_quantity, type_of_subtype}
 use Rattle.design_meaning.specs.Typed.{IsOfType}
 use Rattle.design_rules.specs.Types.{sizes_of, equation_scope}
 use Rattle.design_rules.specs.Design.{HasTerminals, IsSignal, IsQuantity}
-use Rattle.reading_laws.specs.Growing.{Extends, Grows}
+use Rattle.reading_laws.specs.Growing.{Grows}
 use Rattle.reading_laws.proofs.Growing.{grows_same, grows_on}
 use Rattle.typed_laws.specs.Fitting.{FitsKind, FitsValue}
 use Rattle.part_laws.specs.Parts.{OnKept}
 use Rattle.part_laws.proofs.Parts.{judged_kept, where_kept}
-use Rattle.scope_laws.specs.Holds.{HasNoFaults, SubtypeFits, ScopeHolds, StandsBefore}
+use Rattle.scope_laws.specs.Holds.{HasNoFaults, SubtypeFits, ScopeHolds}
 use Rattle.subtype_laws.specs.Subtypes.{ValuedFits}
 use Rattle.subtype_laws.proofs.Growth.{grows_found, grows_subtype, grows_initial}
 use Rattle.subtype_laws.proofs.Indications.{subtype_right}
 use Rattle.subtype_laws.proofs.Values.{initial_right, valued_declared}
-use Rattle.declaration_laws.specs.Books.{BookHolds, KeepsBook}
-use Rattle.declaration_laws.proofs.Steps.{extends_same, extends_one, last_at, last_below, Keeps, keeps_on, always, given, declared_keeps, PartRight}
+use Rattle.declaration_laws.proofs.Steps.{extends_same, extends_one, last_at, last_below, Keeps, keeps_on, declared_keeps, PartRight}
 
 module _ (final : Objects) where
   abbrev Valid : Valued → Type 0

@@ -1,22 +1,17 @@
 -- Names and notes of declarations.
-use Rattle.std.proofs.Common.{◌≡◌, ◌<◌, ◌+◌, ℕ, zero, suc, List, [], ◌∷◌, ◌++◌, length, length-append, map, append_assoc, append-nil, Option, Some, None, IfSome, refl, sym, ap, ◌∙◌, subst, arith}
-use Rattle.std.specs.List.{slice_get, fold}
+use Rattle.std.proofs.Common.{◌≡◌, ◌<◌, ◌+◌, List, [], ◌∷◌, ◌++◌, length, length-append, map, append-nil, Option, Some, None, refl, sym, ap, ◌∙◌, arith}
+use Rattle.std.specs.List.{slice_get}
 use Rattle.ams_token.specs.declared.token.Place.{Place}
 use Rattle.ams_tree.specs.declared.expression.Name.{Name}
-use Rattle.flat_design.specs.declared.objects.Signal.{Signal}
-use Rattle.flat_design.specs.declared.objects.Quantity.{Quantity}
-use Rattle.flat_design.specs.declared.objects.Node.{Node}
-use Rattle.flat_design.specs.declared.objects.Enumeration.{Enumeration}
 use Rattle.flat_design.specs.declared.objects.Objects.{Objects}
 use Rattle.name_scope.specs.declared.thing.Thing.{Thing}
 use Rattle.name_scope.specs.declared.thing.Thing.TheVariants as thing
-use Rattle.name_scope.specs.Scopes.{declared_in, with_name}
+use Rattle.name_scope.specs.Scopes.{declared_in}
 use Rattle.elab_meaning.specs.declared.book.Book.{Book}
 use Rattle.elab_meaning.specs.declared.fault.Cause.TheVariants.{Duplicate, WrongType}
 use Rattle.elab_meaning.specs.declared.fault.Notes.{Notes}
 use Rattle.elab_meaning.specs.declared.part.Part.{Part}
 use Rattle.elab_meaning.specs.declared.part.Part.TheVariants.{Kept, Wrong, Hidden}
-use Rattle.elab_meaning.specs.Notes.{noted}
 use Rattle.elab_meaning.specs.Parts.{closed}
 use Rattle.elab_meaning.specs.Declarations.{duplicate, declared, with_notes, each, faulty, each_of, declaring_each}
 use Rattle.design_rules.specs.Types.{equation_scope}

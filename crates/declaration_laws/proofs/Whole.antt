@@ -27,7 +27,7 @@ use Rattle.subtype_laws.proofs.Indications.{subtype_right}
 use Rattle.subtype_laws.proofs.Values.{valued_right}
 use Rattle.declaration_laws.specs.Books.{KeepsBook, HasLiterals, DeclarationsHold}
 use Rattle.declaration_laws.proofs.Steps.{Keeps, given, book_on, book_same, declared_keeps, declaring_keeps}
-use Rattle.declaration_laws.proofs.Objects.{signal_keeps, constant_keeps, type_keeps, Anything, nature_right, grows_nature, node_keeps, IsNewQuantity, quantity_keeps, free_right, grows_free}
+use Rattle.declaration_laws.proofs.Objects.{signal_keeps, constant_keeps, type_keeps, Anything, nature_right, grows_nature, node_keeps, quantity_keeps, free_right, grows_free}
 use Rattle.declaration_laws.proofs.Branches.{branch_keeps, nature_keeps}
 use Rattle.declaration_laws.proofs.Enumerations.{enumeration_keeps}
 

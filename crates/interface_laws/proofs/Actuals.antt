@@ -1,5 +1,5 @@
 -- Associations of an instance, read where it stands.
-use Rattle.std.proofs.Common.{◌≡◌, ◌+◌, ℕ, Bool, true, false, not, if◌then◌else◌, List, [], ◌∷◌, Option, Some, None, IfSome}
+use Rattle.std.proofs.Common.{◌+◌, ℕ, Bool, true, false, not, if◌then◌else◌, List, [], ◌∷◌, Option, Some, None}
 use Rattle.std.specs.Prelude.{nat_eq}
 use Rattle.std.specs.List.{All}
 use Rattle.std.proofs.lemmas.List.Elements.{All-nil, All-cons}
@@ -28,13 +28,13 @@ use Rattle.elab_meaning.specs.Notes.{noted}
 use Rattle.elab_meaning.specs.Kinds.{same_kind}
 use Rattle.elab_meaning.specs.Parts.{part_of, judged, closed, found_thing}
 use Rattle.elab_meaning.specs.Expressions.{expression, static}
-use Rattle.elab_meaning.specs.Subtypes.{declaring, static_part, holds_known}
+use Rattle.elab_meaning.specs.Subtypes.{declaring, holds_known}
 use Rattle.unit_meaning.specs.declared.request.Actual.{Actual}
 use Rattle.unit_meaning.specs.declared.request.Actual.TheVariants as actual
 use Rattle.unit_meaning.specs.declared.request.Assigned.{Assigned}
-use Rattle.unit_meaning.specs.Settings.{running, sealed, finished}
+use Rattle.unit_meaning.specs.Settings.{running, sealed}
 use Rattle.unit_meaning.specs.Cases.{place_of}
-use Rattle.unit_meaning.specs.Associations.{has_no_value, formal_suits, value_of, value_actual, generic_value, object_or, generic_actual, nature_outside, compared, object_actual, other_actual, port_actual, formal_at, association_place, assigned, associations, list_or, entity_in, generic_formals, port_formals, instance_maps}
+use Rattle.unit_meaning.specs.Associations.{has_no_value, formal_suits, value_of, generic_value, object_or, generic_actual, nature_outside, compared, object_actual, other_actual, port_actual, formal_at, association_place, assigned, associations, list_or, entity_in, generic_formals, port_formals, instance_maps}
 use Rattle.design_rules.specs.Types.{equation_scope}
 use Rattle.reading_laws.specs.Growing.{Grows}
 use Rattle.reading_laws.proofs.Growing.{grows_same, grows_on, grows_noted}

@@ -11,7 +11,6 @@ use Rattle.flat_design.specs.declared.objects.Objects.{Objects}
 use Rattle.name_scope.specs.declared.thing.Kind.{Kind}
 use Rattle.name_scope.specs.declared.thing.Kind.TheVariants.{Of, Vector}
 use Rattle.name_scope.specs.declared.thing.Subtype.{Subtype}
-use Rattle.name_scope.specs.declared.thing.Thing.TheVariants as thing
 use Rattle.name_scope.specs.declared.scope.Scope.{Scope}
 use Rattle.elab_meaning.specs.declared.book.Book.{Book}
 use Rattle.elab_meaning.specs.declared.fault.Cause.TheVariants.{WrongType}
@@ -21,14 +20,14 @@ use Rattle.elab_meaning.specs.declared.part.Part.TheVariants.{Kept, Wrong, Hidde
 use Rattle.elab_meaning.specs.declared.typed.Valued.{Valued}
 use Rattle.elab_meaning.specs.Notes.{noted}
 use Rattle.elab_meaning.specs.Kinds.{same_kind}
-use Rattle.elab_meaning.specs.Parts.{kept, closed, judged}
+use Rattle.elab_meaning.specs.Parts.{kept, closed}
 use Rattle.elab_meaning.specs.Subtypes.{subtype, holds_known, valued}
-use Rattle.elab_meaning.specs.Declarations.{constant_value, constant_of, declared, with_notes}
+use Rattle.elab_meaning.specs.Declarations.{constant_value, declared, with_notes}
 use Rattle.unit_meaning.specs.declared.request.Actual.{Actual}
 use Rattle.unit_meaning.specs.declared.request.Actual.TheVariants as actual
 use Rattle.unit_meaning.specs.declared.request.Assigned.{Assigned}
 use Rattle.unit_meaning.specs.Interfaces.{first_place, unvalued, generic_default}
-use Rattle.unit_meaning.specs.Walk.{actual_at, range_notes, kind_suits, actual_value, default_thing, generic_entered, if_some, generic_names, is_there, generics_entered}
+use Rattle.unit_meaning.specs.Walk.{actual_at, range_notes, kind_suits, actual_value, default_thing, generic_entered, generic_names, is_there, generics_entered}
 use Rattle.design_meaning.specs.Typed.{IsOfType}
 use Rattle.design_rules.specs.Types.{sizes_of, equation_scope}
 use Rattle.reading_laws.specs.Growing.{Grows}
@@ -42,7 +41,7 @@ use Rattle.subtype_laws.specs.Subtypes.{ValuedFits}
 use Rattle.subtype_laws.proofs.Growth.{grows_subtype, grows_valued}
 use Rattle.subtype_laws.proofs.Indications.{subtype_right}
 use Rattle.subtype_laws.proofs.Values.{valued_right}
-use Rattle.declaration_laws.specs.Books.{BookHolds, KeepsBook}
+use Rattle.declaration_laws.specs.Books.{KeepsBook}
 use Rattle.declaration_laws.proofs.Steps.{Keeps, keeps_same, keeps_on, always, weaker, book_on, book_same, Holds, declared_keeps, notes_keep, PartRight, behind_part}
 use Rattle.declaration_laws.proofs.Objects.{constant_fits}
 use Rattle.interface_laws.specs.Requests.{IsGenericActual, IsGenericAssigned}

@@ -4,7 +4,6 @@ use Rattle.std.specs.Prelude.{◌&&◌, not}
 use Rattle.std.specs.List.{slice_get, All}
 use Rattle.ams_token.specs.declared.token.Place.{Place}
 use Rattle.ams_tree.specs.declared.expression.Name.{Name}
-use Rattle.ams_tree.specs.declared.expression.Expr.{Expr}
 use Rattle.ams_tree.specs.declared.declaration.Mode.{Mode}
 use Rattle.ams_tree.specs.declared.declaration.Port.{Port}
 use Rattle.ams_tree.specs.declared.declaration.Port.TheVariants as port
@@ -25,24 +24,23 @@ use Rattle.elab_meaning.specs.declared.part.Part.{Part}
 use Rattle.elab_meaning.specs.declared.part.Part.TheVariants.{Kept, Wrong, Hidden}
 use Rattle.elab_meaning.specs.declared.typed.Valued.{Valued}
 use Rattle.elab_meaning.specs.Kinds.{same_kind}
-use Rattle.elab_meaning.specs.Parts.{kept, closed, judged}
-use Rattle.elab_meaning.specs.Subtypes.{subtype, valued}
-use Rattle.elab_meaning.specs.Declarations.{declared, nature_named, free_of, signal_of, with_notes}
+use Rattle.elab_meaning.specs.Parts.{kept, closed}
+use Rattle.elab_meaning.specs.Subtypes.{valued}
+use Rattle.elab_meaning.specs.Declarations.{nature_named, with_notes}
 use Rattle.unit_meaning.specs.declared.request.Actual.{Actual}
 use Rattle.unit_meaning.specs.declared.request.Actual.TheVariants as actual
 use Rattle.unit_meaning.specs.declared.request.Assigned.{Assigned}
 use Rattle.unit_meaning.specs.Interfaces.{first_place, is_out, access_of, quantity_subtype}
-use Rattle.unit_meaning.specs.Walk.{Entry, bound, actual_at, if_some, signal_bound, new_port_signal, signal_entered, terminal_entered, is_source, is_used, out_bound, quantity_bound, quantity_entered, names_entered, judged_entry, port_entered, port_names, ports_entered}
+use Rattle.unit_meaning.specs.Walk.{Entry, bound, actual_at, signal_bound, new_port_signal, signal_entered, terminal_entered, is_source, is_used, out_bound, quantity_bound, quantity_entered, names_entered, judged_entry, port_entered, port_names, ports_entered}
 use Rattle.design_rules.specs.Types.{sizes_of, equation_scope}
 use Rattle.reading_laws.specs.Growing.{Grows}
 use Rattle.typed_laws.specs.Fitting.{FitsKind}
 use Rattle.part_laws.specs.Parts.{OnKept}
 use Rattle.part_laws.proofs.Parts.{same_type_is}
-use Rattle.scope_laws.specs.Holds.{HasNoFaults, SubtypeFits}
 use Rattle.subtype_laws.specs.Subtypes.{ValuedFits}
 use Rattle.subtype_laws.proofs.Growth.{grows_subtype, grows_valued}
 use Rattle.subtype_laws.proofs.Values.{valued_right}
-use Rattle.declaration_laws.specs.Books.{BookHolds, KeepsBook}
+use Rattle.declaration_laws.specs.Books.{KeepsBook}
 use Rattle.declaration_laws.proofs.Steps.{Keeps, keeps_same, keeps_on, weaker, book_on, book_same, Holds, declared_keeps, PartRight, behind_part}
 use Rattle.declaration_laws.proofs.Objects.{signal_keeps, Anything, nature_right, grows_nature}
 use Rattle.interface_laws.specs.Requests.{IsPortActual, IsPortAssigned}

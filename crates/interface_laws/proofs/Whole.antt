@@ -1,6 +1,6 @@
 -- The interface of an instance.
-use Rattle.std.proofs.Common.{◌≡◌, ℕ, List, [], ◌∷◌, Option, Some, None, IfSome}
-use Rattle.std.specs.List.{slice_get, All}
+use Rattle.std.proofs.Common.{ℕ, List, Option, Some, None, IfSome}
+use Rattle.std.specs.List.{All}
 use Rattle.std.proofs.lemmas.List.Elements.{All-nil}
 use Rattle.ams_tree.specs.declared.design.Entity.{Entity}
 use Rattle.flat_design.specs.declared.objects.Objects.{Objects}
@@ -10,9 +10,8 @@ use Rattle.unit_meaning.specs.declared.request.Request.{Request}
 use Rattle.unit_meaning.specs.declared.site.Site.{Site}
 use Rattle.unit_meaning.specs.Units.{start_of}
 use Rattle.unit_meaning.specs.Walk.{Entry, matched, if_some, generics_entered, ports_entered, port_numbers, generic_numbers, entry_of_instance, numbering}
-use Rattle.design_rules.specs.Design.{domain_type}
 use Rattle.scope_laws.proofs.Scopes.{scopes_hold}
-use Rattle.declaration_laws.specs.Books.{ObjectsHold, BookHolds, KeepsBook}
+use Rattle.declaration_laws.specs.Books.{KeepsBook}
 use Rattle.declaration_laws.proofs.Steps.{book_on}
 use Rattle.interface_laws.specs.Requests.{IsGenericAssigned, IsPortAssigned, RequestHolds, start_book, InterfacesHold}
 use Rattle.interface_laws.proofs.Matches.{then_some, Given, matched_each}
