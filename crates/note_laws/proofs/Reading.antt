@@ -1,5 +1,5 @@
 -- What two readings of one expression note, by induction on the tree.
-use Rattle.std.proofs.Common.{◌≡◌, ◌≤◌, ◌<◌, ℕ, ℤ, pos, Bool, true, false, if◌then◌else◌, List, [], ◌∷◌, ◌++◌, length, map, Option, Some, None, is_some, IfSome, IsTrue, unsigned_abs, refl, sym, ap, subst, arith}
+use Rattle.std.proofs.Common.{◌≡◌, ◌<◌, ℕ, ℤ, pos, Bool, true, false, if◌then◌else◌, List, [], ◌∷◌, ◌++◌, length, map, Option, Some, None, is_some, IfSome, IsTrue, unsigned_abs, refl, sym, ap, subst, arith}
 use Rattle.std.specs.Prelude.{◌&&◌, nat_le}
 use Rattle.std.proofs.lemmas.Bool.Decides.{nat_tests}
 use Rattle.fix_core.specs.Units.{most_units}
@@ -16,7 +16,6 @@ use Rattle.ams_value.specs.declared.val.Val.TheVariants as val
 use Rattle.ams_value.specs.declared.op.UnaryOperator.{UnaryOperator}
 use Rattle.ams_value.specs.declared.op.BinaryOperator.{BinaryOperator}
 use Rattle.ams_value.specs.declared.value_type.ValueType.TheVariants as kind
-use Rattle.flat_expr.specs.declared.expr.FlatExpr.{FlatExpr}
 use Rattle.flat_expr.specs.declared.expr.FlatExpr.TheVariants as e
 use Rattle.flat_expr.specs.declared.expr.SignalName.TheVariants as signal
 use Rattle.flat_expr.specs.declared.expr.Unknown.TheVariants as unknown
@@ -38,10 +37,9 @@ use Rattle.elab_meaning.specs.declared.typed.StaticValue.{StaticValue}
 use Rattle.elab_meaning.specs.declared.typed.StaticValue.TheVariants.{Known, Faulty, Later, Changing}
 use Rattle.elab_meaning.specs.declared.typed.Typed.{Typed}
 use Rattle.elab_meaning.specs.Kinds.{same_kind}
-use Rattle.elab_meaning.specs.Notes.{Found, noted, changing, dotted, watched}
+use Rattle.elab_meaning.specs.Notes.{Found, noted, changing, dotted}
 use Rattle.elab_meaning.specs.Names.{call_at, missing, dot, dot_at, level_of, threshold, above, above_at, ramp_at}
 use Rattle.elab_meaning.specs.Expressions.{Reading, prefix, infix_of, unary_at, binary_at, parenthesized, asked_value, asked, is_fine, static_in, put, arguments, time_of, attribute_step, expr_step, expression, attribute, static}
-use Rattle.design_meaning.specs.Typed.{IsOfType}
 use Rattle.design_rules.specs.Types.{sizes_of, equation_scope}
 use Rattle.design_rules.specs.Design.{IsThreshold}
 use Rattle.reading_laws.specs.Growing.{Grows}
@@ -51,8 +49,8 @@ use Rattle.static_laws.specs.Known.{OnKnown}
 use Rattle.sound_laws.specs.Sound.{GivesValue, HasSoundValue}
 use Rattle.sound_laws.proofs.Sound.{known_values_follow}
 use Rattle.note_laws.specs.Noting.{IsNotable, NamesAreNotable, NotesAlike, ReadingsNoteAlike}
-use Rattle.note_laws.proofs.Notes.{SameLists, Alike, alike_same, alike_quiet, alike_noted, alike_changing, alike_on, alike_dotted, alike_watched}
-use Rattle.note_laws.proofs.Steps.{as_read, LikeTyped, Like, LikeAll, LikeList, Quiet, SameAsked, quiet_number, quiet_literal, quiet_named, quiet_call, lists_missing, quiet_event, quiet_reference, quiet_ramp, same_asked, quiet_unary, quiet_binary, quiet_paren}
+use Rattle.note_laws.proofs.Notes.{alike_same, alike_quiet, alike_noted, alike_changing, alike_on, alike_dotted, alike_watched}
+use Rattle.note_laws.proofs.Steps.{LikeTyped, Like, LikeAll, LikeList, Quiet, quiet_number, quiet_literal, quiet_named, quiet_call, lists_missing, quiet_event, quiet_reference, quiet_ramp, same_asked, quiet_unary, quiet_binary, quiet_paren}
 
 -- ---- levels
 
