@@ -1,5 +1,5 @@
 -- Cases that are read, sequential and simultaneous.
-use Rattle.std.proofs.Common.{◌≡◌, ◌<◌, ◌≤◌, ℕ, zero, suc, Bool, true, false, if◌then◌else◌, List, [], ◌∷◌, ◌++◌, length, map, Option, Some, None, refl, sym, ap, ◌∙◌, subst, arith}
+use Rattle.std.proofs.Common.{◌≡◌, ◌+◌, ◌<◌, ℕ, suc, Bool, true, false, if◌then◌else◌, List, [], ◌∷◌, ◌++◌, length, map, Option, Some, None, refl, sym, ap, ◌∙◌, subst, arith}
 use Rattle.std.specs.Prelude.{nat_eq, ◌&&◌}
 use Rattle.std.specs.List.{All, list_all, flat_map}
 use Rattle.std.proofs.lemmas.Bool.Decides.{nat_tests}
@@ -36,7 +36,7 @@ use Rattle.unit_meaning.specs.declared.draft.Spot.{Spot}
 use Rattle.unit_meaning.specs.Settings.{Setting, running, equating, choosing, typed, ahead}
 use Rattle.unit_meaning.specs.Cases.{nothing_seen, choices, values_since, others_since, covers}
 use Rattle.unit_meaning.specs.Sequential.{with_notes, way_to, body, made_alternative, alternative_step, alternatives, kind_known}
-use Rattle.unit_meaning.specs.Simultaneous.{single, simple, pair, pairs, same_lengths, first_length, compared, case_arm_of, case_arms, case_lengths, chosen_case, case_statement}
+use Rattle.unit_meaning.specs.Simultaneous.{single, pair, pairs, same_lengths, first_length, compared, case_arm_of, case_arms, case_lengths, chosen_case, case_statement}
 use Rattle.design_meaning.specs.Typed as flat
 use Rattle.design_meaning.specs.Typed.{HasType}
 use Rattle.design_rules.specs.Types.{equation_scope, sizes_of, IsVisible}
@@ -149,6 +149,7 @@ all_first (k ∷ more) h = both_true (nat_eq k k) (list_all (nat_eq k) more) (it
   where
     itself : (m : ℕ) → nat_eq m m ≡ true
     itself m = grind (arith, nat_tests)
+
     both_true : (a b : Bool) → a ≡ true → b ≡ true → (a && b) ≡ true
     both_true true b h g = g
     both_true false b h g = absurd (cc)
@@ -161,7 +162,7 @@ module _ (objects : Objects) (w : Setting) (scope : Scope) (fits : ScopeFits (eq
   Fine = IsFine (equation_scope objects)
 
   room_down : (a b : Notes) → Grows a b → Room b → Room a
-  room_down a b g k = room_before (equation_scope objects) (IsVisible [] []) a b g k
+  room_down a b g k = room_before (equation_scope objects) a b g k
 
   fine_down : (a b : Notes) → Grows a b → Fine b → Fine a
   fine_down a b g k = record { faults = no_faults_before a b g k.faults; room = room_down a b g k.room }
@@ -265,15 +266,18 @@ module _ (objects : Objects) (w : Setting) (scope : Scope) (fits : ScopeFits (eq
 
     sized_of : (all : List SimultaneousAlternative) → list_all (nat_eq size) (case_lengths all) ≡ true → EachHasSize all
     sized_of [] h = tt
-    sized_of (a ∷ more) h =
-        (equal size (length a.equations) (left_of (nat_eq size (length a.equations)) (list_all (nat_eq size) (case_lengths more)) h),
-        sized_of more (right_of (nat_eq size (length a.equations)) (list_all (nat_eq size) (case_lengths more)) h))
+    sized_of (a ∷ more) h = (
+      equal size (length a.equations) (left_of (nat_eq size (length a.equations)) (list_all (nat_eq size) (case_lengths more)) h),
+      sized_of more (right_of (nat_eq size (length a.equations)) (list_all (nat_eq size) (case_lengths more)) h),
+    )
       where
         equal : (m n : ℕ) → nat_eq m n ≡ true → n ≡ m
         equal m n h = grind (arith, nat_tests)
+
         left_of : (a b : Bool) → (a && b) ≡ true → a ≡ true
         left_of true b h = refl
         left_of false b h = absurd (cc)
+
         right_of : (a b : Bool) → (a && b) ≡ true → b ≡ true
         right_of true b h = h
         right_of false b h = absurd (cc)

@@ -1,10 +1,11 @@
 -- What is seen of the choices of a case.
-use Rattle.std.proofs.Common.{◌≡◌, ◌≢◌, ◌≤◌, ◌<◌, ◌+◌, ◌⊎◌, inl, inr, ℕ, zero, suc, Bool, true, false, cond, if◌then◌else◌, List, [], ◌∷◌, ◌++◌, length, drop, map, Option, Some, None, IfSome, IsTrue, get_or, append_assoc, append-nil, refl, sym, ap, ◌∙◌, subst, arith}
+use Rattle.std.proofs.Common.{◌≡◌, ◌≢◌, ◌≤◌, ◌+◌, ◌⊎◌, inl, inr, ℕ, Bool, true, false, cond, if◌then◌else◌, List, [], ◌∷◌, ◌++◌, length, drop, Option, Some, None, IfSome, IsTrue, append_assoc, append-nil, refl, sym, ap, ◌∙◌, subst, arith}
 use Rattle.std.specs.Prelude.{◌&&◌, ◌||◌, not, nat_le, ◌^◌}
 use Rattle.std.specs.List.{All, AllPairs, list_any, count_by, slice_get}
 use Rattle.std.proofs.lemmas.Bool.Decides.{nat_tests}
 use Rattle.std.proofs.lemmas.List.Elements.{All-nil, All-push}
 use Rattle.std.proofs.lemmas.List.Quantifiers.{all_pairs_push}
+use Rattle.std.proofs.lemmas.List.Sums.{sum_by-cons}
 use Rattle.ams_tree.specs.declared.expression.Expr.{Expr}
 use Rattle.ams_tree.specs.declared.sequential.Choice.{Choice}
 use Rattle.ams_tree.specs.declared.sequential.Choice.TheVariants as choice
@@ -25,8 +26,8 @@ use Rattle.elab_meaning.specs.Kinds.{same_kind}
 use Rattle.elab_meaning.specs.Parts.{part_of, where_true, judged}
 use Rattle.elab_meaning.specs.Expressions.{expression, static, static_in, asked}
 use Rattle.unit_meaning.specs.declared.draft.Seen.{Seen}
-use Rattle.unit_meaning.specs.Settings.{Setting, finished}
-use Rattle.unit_meaning.specs.Cases.{place_of, nothing_seen, with_value, fits_kind, choosing_value, one_choice, seen_or, choices, values_since, others_since, literal_count, all_stand, covers}
+use Rattle.unit_meaning.specs.Settings.{Setting}
+use Rattle.unit_meaning.specs.Cases.{place_of, nothing_seen, with_value, choosing_value, one_choice, seen_or, choices, values_since, others_since, literal_count, all_stand, covers}
 use Rattle.design_meaning.specs.Typed as flat
 use Rattle.design_meaning.specs.Typed.{IsOfType}
 use Rattle.design_rules.specs.Choices.{NamesAll, AreChoices}
@@ -228,6 +229,7 @@ listed_none s = record { values = sym (append-nil s.values); others = or_false s
     or_false : (b : Bool) → b ≡ (b || false)
     or_false true = refl
     or_false false = refl
+
     at_most : (b : Bool) → 0 + one_if b ≤ 1
     at_most true = omega arith
     at_most false = omega arith
@@ -256,7 +258,9 @@ listed_more sizes k s t u vs os h g =
     record {
       values = g.values ∙ (ap (λ (l : List Val). l ++ vs) h.values.whole ∙ (append_assoc s.values h.values.more vs ∙ ap (λ (l : List Val). s.values ++ (l ++ vs)) (sym new)));
       others = g.others ∙ others_follow s.others t.others (list_any (λ b. b) os) h.others;
-      once = once_follow s.others t.others (count_by (λ b. b) os) h.others g.once;
+      once =
+          subst (λ (z : ℕ). z + one_if s.others ≤ 1) (sym (sum_by-cons (λ (x : Bool). cond x 1 0) (others_since s t) os))
+          (once_follow s.others t.others (count_by (λ b. b) os) h.others g.once);
     }
 
 -- ---- whether all values stand

@@ -1,14 +1,14 @@
 -- As many different values of a type as it has are all of them.
-use Rattle.std.proofs.Common.{◌≡◌, ◌≢◌, ◌≤◌, ◌<◌, ◌^◌, ℕ, zero, suc, Bool, true, false, cond, List, [], ◌∷◌, length, map, Option, Some, None, get_or, IsTrue, refl, sym, ap, ◌∙◌, subst, arith}
-use Rattle.std.specs.Prelude.{◌||◌, ◌&&◌, nat_eq, nat_le, nat_lt, eqb, if◌then◌else◌}
-use Rattle.std.specs.List.{All, AllPairs, AllByRecursion, IsDistinct, list_any, slice_get}
+use Rattle.std.proofs.Common.{◌≡◌, ◌≢◌, ◌≤◌, ◌<◌, ◌^◌, ℕ, zero, suc, Bool, true, false, List, [], ◌∷◌, length, map, get_or, IsTrue, refl, sym, ap, ◌∙◌, subst, arith}
+use Rattle.std.specs.Prelude.{◌||◌, ◌&&◌, nat_eq, nat_le, nat_lt, eqb}
+use Rattle.std.specs.List.{All, AllPairs, AllByRecursion, IsDistinct, list_any}
 use Rattle.std.proofs.lemmas.Bool.Decides.{nat_tests}
 use Rattle.std.proofs.lemmas.List.Elements.{All-head, All-tail, All-cons}
 use Rattle.std.proofs.lemmas.Map.Steps.{length-le_from_distinct_below}
 use Rattle.ams_value.specs.declared.val.Val.{Val}
 use Rattle.ams_value.specs.declared.val.Val.TheVariants as val
 use Rattle.ams_value.specs.declared.value_type.ValueType.{ValueType}
-use Rattle.ams_value.specs.declared.value_type.ValueType.TheVariants.{Boolean, Bit, Integer, Real, Time, Enumeration, BitVector}
+use Rattle.ams_value.specs.declared.value_type.ValueType.TheVariants.{Boolean, Bit, Enumeration, BitVector}
 use Rattle.ams_value.specs.Values.{equals}
 use Rattle.ams_value.specs.Types.{type_of, is_in_range}
 use Rattle.ams_value.specs.Laws.{values_decide}
@@ -31,6 +31,12 @@ not_among v (x ∷ xs) h (suc k) d less is = not_among v xs (rest_false (equals 
     rest_false true b g = absurd (grind arith)
     rest_false false b g = g
 
+cons_apart : (v : Val) (xs : List Val) → list_any (equals v) xs ≡ false → AllPairs (λ a b. a ≢ b) xs → AllPairs (λ a b. a ≢ b) (v ∷ xs)
+cons_apart v xs is apart zero zero d less within = absurd (omega arith)
+cons_apart v xs is apart zero (suc j) d less within = not_among v xs is j d (omega arith)
+cons_apart v xs is apart (suc i) zero d less within = absurd (omega arith)
+cons_apart v xs is apart (suc i) (suc j) d less within = apart i j d (omega arith) (omega arith)
+
 -- ---- by a number for each value
 
 module _ (P : Val → Type 0) (code : Val → ℕ) (n : ℕ) (below : (v : Val) → P v → code v < n) (one : (a b : Val) → P a → P b → code a ≡ code b → a ≡ b) where
@@ -48,17 +54,21 @@ module _ (P : Val → Type 0) (code : Val → ℕ) (n : ℕ) (below : (v : Val) 
   codes_differ : (xs : List Val) → All P xs → AllPairs (λ a b. a ≢ b) xs → IsDistinct eqb (map code xs)
   unfolding IsDistinct
   codes_differ [] h g = tt
-  codes_differ (x ∷ xs) h g =
-      (apart_from x xs (All-head P x xs h) (All-tail P x xs h) (λ k d less. g 0 (suc k) d (omega arith) (omega arith)),
-      codes_differ xs (All-tail P x xs h) (λ i j d less within. g (suc i) (suc j) d (omega arith) (omega arith)))
+  codes_differ (x ∷ xs) h g = (
+    apart_from x xs (All-head P x xs h) (All-tail P x xs h) (λ k d less. g 0 (suc k) d (omega arith) (omega arith)),
+    codes_differ xs (All-tail P x xs h) (λ i j d less within. g (suc i) (suc j) d (omega arith) (omega arith)),
+  )
+
+  below_one : (x : Val) (xs : List Val) (q : ℕ) → P x → (list_any (eqb q) (map code xs) ≡ true → q < n) → list_any (eqb q) (map code (x ∷ xs)) ≡ true → q < n
+  below_one x xs q h rest is = go (eqb q (code x)) refl is
+    where
+      go : (t : Bool) → eqb q (code x) ≡ t → (t || list_any (eqb q) (map code xs)) ≡ true → q < n
+      go true here e = let less : code x < n = below x h in let same : q ≡ code x = grind (arith, nat_tests) in omega arith
+      go false here e = rest e
 
   codes_below : (xs : List Val) → All P xs → (q : ℕ) → list_any (eqb q) (map code xs) ≡ true → q < n
   codes_below [] h q is = absurd (grind arith)
-  codes_below (x ∷ xs) h q is = go (eqb q (code x)) refl is
-    where
-      go : (t : Bool) → eqb q (code x) ≡ t → (t || list_any (eqb q) (map code xs)) ≡ true → q < n
-      go true here e = let less : code x < n = below x (All-head P x xs h) in let same : q ≡ code x = grind (arith, nat_tests) in omega arith
-      go false here e = codes_below xs (All-tail P x xs h) q e
+  codes_below (x ∷ xs) h q is = below_one x xs q (All-head P x xs h) (codes_below xs (All-tail P x xs h) q) is
 
   map_length : (xs : List Val) → length (map code xs) ≡ length xs
   map_length [] = refl
@@ -70,24 +80,18 @@ module _ (P : Val → Type 0) (code : Val → ℕ) (n : ℕ) (below : (v : Val) 
       go : (t : Bool) → list_any (equals v) xs ≡ t → list_any (equals v) xs ≡ true
       go true is = is
       go false is =
-          let pairs : AllPairs (λ a b. a ≢ b) (v ∷ xs) = cons_apart is in
+          let pairs : AllPairs (λ a b. a ≢ b) (v ∷ xs) = cons_apart v xs is apart in
           let few : length (map code (v ∷ xs)) ≤ n = length-le_from_distinct_below (map code (v ∷ xs)) n (codes_differ (v ∷ xs) (All-cons P v xs h each) pairs) (codes_below (v ∷ xs) (All-cons P v xs h each)) in
           let same : length (map code (v ∷ xs)) ≡ length (v ∷ xs) = map_length (v ∷ xs) in
           absurd (omega arith)
 
-      cons_apart : list_any (equals v) xs ≡ false → AllPairs (λ a b. a ≢ b) (v ∷ xs)
-      cons_apart is zero zero d less within = absurd (omega arith)
-      cons_apart is zero (suc j) d less within = not_among v xs is j d (omega arith)
-      cons_apart is (suc i) zero d less within = absurd (omega arith)
-      cons_apart is (suc i) (suc j) d less within = apart i j d (omega arith) (omega arith)
-
 -- ---- the types that have so many values
 
-number : Bool → ℕ
+abbrev pub number : Bool → ℕ
 number true = 1
 number false = 0
 
-code_of : Val → ℕ
+abbrev pub code_of : Val → ℕ
 code_of (val.Bool b) = number b
 code_of (val.Bit b) = number b
 code_of (val.Enum n p) = p
@@ -102,51 +106,46 @@ module _ (sizes : List ℕ) (k : ValueType) (made : ℕ → Val) (n : ℕ) (less
   pub each_stands : (xs : List Val) → All (IsOfType sizes k) xs → AllPairs (λ a b. a ≢ b) xs → n ≤ length xs → (v : Val) → IsOfType sizes k v → IsTrue (list_any (equals v) xs)
   each_stands = all_there (IsOfType sizes k) code_of n less same_code
 
-bool_of : ℕ → Val
+abbrev pub bool_of : ℕ → Val
 bool_of n = val.Bool (nat_eq n 1)
 
-bit_of : ℕ → Val
+abbrev pub bit_of : ℕ → Val
 bit_of n = val.Bit (nat_eq n 1)
 
 module _ (sizes : List ℕ) where
   bool_less : (v : Val) → type_of v ≡ Boolean → code_of v < 2
-  unfolding code_of number
   bool_less (val.Bool true) h = omega arith
   bool_less (val.Bool false) h = omega arith
   bool_less _ h = absurd (cc)
 
   bool_back : (v : Val) → type_of v ≡ Boolean → v ≡ bool_of (code_of v)
-  unfolding code_of number bool_of
   bool_back (val.Bool true) h = refl
   bool_back (val.Bool false) h = refl
   bool_back _ h = absurd (cc)
 
   bit_less : (v : Val) → type_of v ≡ Bit → code_of v < 2
-  unfolding code_of number
   bit_less (val.Bit true) h = omega arith
   bit_less (val.Bit false) h = omega arith
   bit_less _ h = absurd (cc)
 
   bit_back : (v : Val) → type_of v ≡ Bit → v ≡ bit_of (code_of v)
-  unfolding code_of number bit_of
   bit_back (val.Bit true) h = refl
   bit_back (val.Bit false) h = refl
   bit_back _ h = absurd (cc)
 
   enum_less : (m : ℕ) (v : Val) → type_of v ≡ Enumeration m → IsTrue (is_in_range sizes v) → code_of v < get_or sizes m 0
-  unfolding code_of
   enum_less m (val.Enum n p) h r =
       let same : n ≡ m = enumeration_is h in
       subst (λ (z : ℕ). p < get_or sizes z 0) same (in_list (get_or sizes n 0) p r)
     where
       enumeration_is : {a b : ℕ} → Enumeration a ≡ Enumeration b → a ≡ b
       enumeration_is e = cc
+
       in_list : (a b : ℕ) → IsTrue (nat_lt b a) → b < a
       in_list a b e = grind (arith, nat_tests)
   enum_less m _ h r = absurd (cc)
 
   enum_back : (m : ℕ) (v : Val) → type_of v ≡ Enumeration m → v ≡ val.Enum m (code_of v)
-  unfolding code_of
   enum_back m (val.Enum n p) h = ap (λ (z : ℕ). val.Enum z p) (enumeration_is h)
     where
       enumeration_is : {a b : ℕ} → Enumeration a ≡ Enumeration b → a ≡ b
@@ -154,18 +153,17 @@ module _ (sizes : List ℕ) where
   enum_back m _ h = absurd (cc)
 
   bits_less : (m : ℕ) (v : Val) → type_of v ≡ BitVector m → IsTrue (is_in_range sizes v) → code_of v < 2 ^ m
-  unfolding code_of
   bits_less m (val.Bits n c) h r = subst (λ (z : ℕ). c < 2 ^ z) (vector_is h) (in_content (nat_le n _) (2 ^ n) c r)
     where
       vector_is : {a b : ℕ} → BitVector a ≡ BitVector b → a ≡ b
       vector_is e = cc
+
       in_content : (t : Bool) (a b : ℕ) → IsTrue (t && nat_lt b a) → b < a
       in_content true a b e = grind (arith, nat_tests)
       in_content false a b e = absurd (grind arith)
   bits_less m _ h r = absurd (cc)
 
   bits_back : (m : ℕ) (v : Val) → type_of v ≡ BitVector m → v ≡ val.Bits m (code_of v)
-  unfolding code_of
   bits_back m (val.Bits n c) h = ap (λ (z : ℕ). val.Bits z c) (vector_is h)
     where
       vector_is : {a b : ℕ} → BitVector a ≡ BitVector b → a ≡ b
