@@ -138,7 +138,10 @@ module _ (objects : Objects) (w : Setting) (scope : Scope) (notable : NamesAreNo
 
   inside_alike : (a : Attribute-F Attribute Expr) (n m : Notes) → Alike objects n m (inside_attribute w scope a n).0 (inside_attribute w scope a m).0
   inside_alike (Attribute-F.Above x) n m = listed_alike objects Asked Expr (static_part w scope) (static_part w scope) static_alike (x ∷ []) n m
-  inside_alike (Attribute-F.Ramp rise fall) n m = listed_alike objects Asked Expr (static_part w scope) (static_part w scope) static_alike _ n m
+  inside_alike (Attribute-F.Ramp None None) n m = listed_alike objects Asked Expr (static_part w scope) (static_part w scope) static_alike ([]) n m
+  inside_alike (Attribute-F.Ramp None (Some b)) n m = listed_alike objects Asked Expr (static_part w scope) (static_part w scope) static_alike (b ∷ []) n m
+  inside_alike (Attribute-F.Ramp (Some a) None) n m = listed_alike objects Asked Expr (static_part w scope) (static_part w scope) static_alike (a ∷ []) n m
+  inside_alike (Attribute-F.Ramp (Some a) (Some b)) n m = listed_alike objects Asked Expr (static_part w scope) (static_part w scope) static_alike (a ∷ b ∷ []) n m
   inside_alike Attribute-F.Event n m = alike_same objects n m
   inside_alike Attribute-F.Dot n m = alike_same objects n m
   inside_alike Attribute-F.Reference n m = alike_same objects n m
