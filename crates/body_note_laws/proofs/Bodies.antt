@@ -49,6 +49,9 @@ use Rattle.part_note_laws.proofs.Statements.{choices_alike}
 use Rattle.body_note_laws.specs.Bodies.{DraftsAlike, BodiesNoteAlike}
 use Rattle.body_note_laws.proofs.Names.{named_holds, inside_holds}
 
+pub same_before : (xs ys more : List Variable) → xs ≡ ys → xs ++ more ≡ ys ++ more
+same_before xs ys more is = ap (λ (l : List Variable). l ++ more) is
+
 module _ (objects : Objects) where
   abbrev pub Drafts : Draft → Draft → Draft → Draft → Type 0
   Drafts d e on to = DraftsAlike objects d e on to
@@ -63,7 +66,7 @@ module _ (objects : Objects) where
   drafts_notes d e n m same h = record { notes = h; variables = same }
 
   drafts_parameter : (texts : List (List ℕ)) (x : Name) (d e : Draft) → d.variables ≡ e.variables → Drafts d e (with_parameter texts x d) (with_parameter texts x e)
-  drafts_parameter texts x d e same = record { notes = alike_same objects d.notes e.notes; variables = ap (λ (l : List Variable). l ++ _) same }
+  drafts_parameter texts x d e same = record { notes = alike_same objects d.notes e.notes; variables = same_before d.variables e.variables _ same }
 
   driver_notes : (i : ℕ) (d : Draft) → (with_driver i d).notes ≡ d.notes
   driver_notes i d = go (list_any (nat_eq i) d.drivers)

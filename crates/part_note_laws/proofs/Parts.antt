@@ -1,5 +1,5 @@
 -- Parts of statements, read twice.
-use Rattle.std.proofs.Common.{◌≡◌, ◌<◌, ℕ, Bool, true, false, if◌then◌else◌, List, [], ◌∷◌, length, map, Option, Some, None, IfSome, refl, sym, ap, subst}
+use Rattle.std.proofs.Common.{◌≡◌, ℕ, List, [], ◌∷◌, map, Option, Some, None, IfSome, refl, ap, subst}
 use Rattle.ams_token.specs.declared.token.Place.{Place}
 use Rattle.ams_tree.specs.declared.expression.Attribute.{Attribute, out-Attribute}
 use Rattle.ams_tree.specs.declared.expression.Attribute.TheOpen.{Expr-F, Attribute-F}
@@ -11,6 +11,7 @@ use Rattle.ams_tree.specs.declared.sequential.DelayMechanism.{DelayMechanism}
 use Rattle.ams_tree.specs.declared.sequential.DelayMechanism.TheVariants as delay
 use Rattle.ams_tree.specs.declared.sequential.WaveformElement.{WaveformElement}
 use Rattle.ams_value.specs.declared.value_type.ValueType.TheVariants as t
+use Rattle.flat_expr.specs.declared.expr.SignalName.{SignalName}
 use Rattle.flat_design.specs.declared.objects.Objects.{Objects}
 use Rattle.flat_design.specs.declared.objects.Threshold.{Threshold}
 use Rattle.name_scope.specs.declared.thing.Kind.{Kind}
@@ -40,7 +41,7 @@ use Rattle.reading_laws.specs.Growing.{Grows}
 use Rattle.reading_laws.proofs.Growing.{grows_same, grows_noted}
 use Rattle.part_laws.specs.Parts.{OnKept}
 use Rattle.part_laws.proofs.Parts.{both_kept, where_kept}
-use Rattle.note_laws.specs.Noting.{IsNotable, NamesAreNotable, NotesAlike}
+use Rattle.note_laws.specs.Noting.{IsNotable, NamesAreNotable}
 use Rattle.note_laws.proofs.Notes.{SameLists, lists_same, lists_noted, Alike, alike_same, alike_quiet, alike_on, alike_watched}
 use Rattle.note_laws.proofs.Reading.{AskedFits, threshold_is, expression_like, StaticLike, static_like}
 
@@ -198,12 +199,12 @@ module _ (objects : Objects) (w : Setting) (scope : Scope) (notable : NamesAreNo
   watched_alike : (x : Expr) (e : Expr-F Attribute Expr) (n m : Notes) → Alike objects n m (watched_name w scope x e n).0 (watched_name w scope x e m).0
   watched_alike x (Expr-F.Name y) n m = found_alike objects y (lookup scope y.number) n m
   watched_alike x (Expr-F.Attribute y a) n m = attribute_alike y a (out-Attribute a) n m
-  watched_alike x (Expr-F.Number y unit) n m = wrong_alike _ (out-Expr x) n m
-  watched_alike x (Expr-F.Literal y) n m = wrong_alike _ (out-Expr x) n m
-  watched_alike x (Expr-F.Call y all) n m = wrong_alike _ (out-Expr x) n m
-  watched_alike x (Expr-F.Paren place y) n m = wrong_alike _ (out-Expr x) n m
-  watched_alike x (Expr-F.Unary op place y) n m = wrong_alike _ (out-Expr x) n m
-  watched_alike x (Expr-F.Binary op y z) n m = wrong_alike _ (out-Expr x) n m
+  watched_alike x (Expr-F.Number y unit) n m = wrong_alike SignalName (out-Expr x) n m
+  watched_alike x (Expr-F.Literal y) n m = wrong_alike SignalName (out-Expr x) n m
+  watched_alike x (Expr-F.Call y all) n m = wrong_alike SignalName (out-Expr x) n m
+  watched_alike x (Expr-F.Paren place y) n m = wrong_alike SignalName (out-Expr x) n m
+  watched_alike x (Expr-F.Unary op place y) n m = wrong_alike SignalName (out-Expr x) n m
+  watched_alike x (Expr-F.Binary op y z) n m = wrong_alike SignalName (out-Expr x) n m
 
   pub sensitivity_alike : (names : List Expr) (n m : Notes) → Alike objects n m (sensitivity w scope names n).0 (sensitivity w scope names m).0
   sensitivity_alike names n m = listed_alike objects _ Expr (watched_signal w scope) (watched_signal w scope) (λ x n m. watched_alike x (out-Expr x) n m) names n m
@@ -212,13 +213,13 @@ module _ (objects : Objects) (w : Setting) (scope : Scope) (notable : NamesAreNo
 
   quantity_alike : (e : Expr-F Attribute Expr) (n m : Notes) → Alike objects n m (quantity_at w scope e n).0 (quantity_at w scope e m).0
   quantity_alike (Expr-F.Name x) n m = found_alike objects x (lookup scope x.number) n m
-  quantity_alike (Expr-F.Number y unit) n m = wrong_alike _ (Expr-F.Number y unit) n m
-  quantity_alike (Expr-F.Literal y) n m = wrong_alike _ (Expr-F.Literal y) n m
-  quantity_alike (Expr-F.Call y all) n m = wrong_alike _ (Expr-F.Call y all) n m
-  quantity_alike (Expr-F.Attribute y a) n m = wrong_alike _ (Expr-F.Attribute y a) n m
-  quantity_alike (Expr-F.Paren place y) n m = wrong_alike _ (Expr-F.Paren place y) n m
-  quantity_alike (Expr-F.Unary op place y) n m = wrong_alike _ (Expr-F.Unary op place y) n m
-  quantity_alike (Expr-F.Binary op y z) n m = wrong_alike _ (Expr-F.Binary op y z) n m
+  quantity_alike (Expr-F.Number y unit) n m = wrong_alike (ℕ × ℕ) (Expr-F.Number y unit) n m
+  quantity_alike (Expr-F.Literal y) n m = wrong_alike (ℕ × ℕ) (Expr-F.Literal y) n m
+  quantity_alike (Expr-F.Call y all) n m = wrong_alike (ℕ × ℕ) (Expr-F.Call y all) n m
+  quantity_alike (Expr-F.Attribute y a) n m = wrong_alike (ℕ × ℕ) (Expr-F.Attribute y a) n m
+  quantity_alike (Expr-F.Paren place y) n m = wrong_alike (ℕ × ℕ) (Expr-F.Paren place y) n m
+  quantity_alike (Expr-F.Unary op place y) n m = wrong_alike (ℕ × ℕ) (Expr-F.Unary op place y) n m
+  quantity_alike (Expr-F.Binary op y z) n m = wrong_alike (ℕ × ℕ) (Expr-F.Binary op y z) n m
 
   selector_alike : (x : Option Expr) (p q : Part (ℕ × ℕ)) (n m : Notes) → Alike objects n m (selector_at w scope x p n).0 (selector_at w scope x q m).0
   selector_alike None p q n m = alike_same objects n m

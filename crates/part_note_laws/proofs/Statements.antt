@@ -1,5 +1,5 @@
 -- Concurrent and simultaneous statements, read twice.
-use Rattle.std.proofs.Common.{◌≡◌, ℕ, Bool, true, false, if◌then◌else◌, List, [], ◌∷◌, Option, Some, None, refl}
+use Rattle.std.proofs.Common.{ℕ, Bool, true, false, if◌then◌else◌, List, [], ◌∷◌, Option, Some, None}
 use Rattle.ams_token.specs.declared.token.Place.{Place}
 use Rattle.ams_tree.specs.declared.concurrent.ConditionalWaveform.{ConditionalWaveform}
 use Rattle.ams_tree.specs.declared.concurrent.Equation.{Equation}
@@ -29,19 +29,19 @@ use Rattle.elab_meaning.specs.Notes.{noted}
 use Rattle.elab_meaning.specs.Parts.{part_of, where_true, judged, both}
 use Rattle.elab_meaning.specs.Expressions.{static, static_in}
 use Rattle.unit_meaning.specs.declared.draft.Seen.{Seen}
-use Rattle.unit_meaning.specs.Settings.{Setting, running, equating, choosing, typed, must_be, condition, listed}
+use Rattle.unit_meaning.specs.Settings.{Setting, equating, choosing, typed, must_be, condition, listed}
 use Rattle.unit_meaning.specs.Bare.{sensitivity, break_elements}
 use Rattle.unit_meaning.specs.Waveforms.{target, mechanism, waveform}
 use Rattle.unit_meaning.specs.Cases.{place_of, choosing_value, one_choice, seen_or, choices, nothing_seen}
 use Rattle.unit_meaning.specs.Sequential.{assertion_parts, kind_known}
 use Rattle.unit_meaning.specs.Processes.{Wave, wave, conditional, concurrent_assignment, concurrent_assertion, concurrent_break}
-use Rattle.unit_meaning.specs.Simultaneous.{pair_of, pair, pairs, simple, same_lengths, compared, if_arm, last_arm, if_lengths, if_statement, case_arms, case_lengths, case_statement}
+use Rattle.unit_meaning.specs.Simultaneous.{pair_of, pair, pairs, same_lengths, compared, if_arm, last_arm, if_lengths, if_statement, case_arms, case_lengths, case_statement}
 use Rattle.reading_laws.specs.Growing.{Grows}
 use Rattle.reading_laws.proofs.Growing.{grows_same, grows_noted}
-use Rattle.note_laws.specs.Noting.{NamesAreNotable, NotesAlike}
+use Rattle.note_laws.specs.Noting.{NamesAreNotable}
 use Rattle.note_laws.proofs.Notes.{SameLists, lists_same, lists_noted, Alike, alike_same, alike_quiet, alike_on}
 use Rattle.note_laws.proofs.Reading.{static_like}
-use Rattle.part_note_laws.specs.Parts.{StatementsNoteAlike, EachNotesAlike}
+use Rattle.part_note_laws.specs.Parts.{EachNotesAlike}
 use Rattle.part_note_laws.proofs.Parts.{finished_alike, listed_alike, typed_alike, must_alike, condition_alike, sensitivity_alike, breaks_alike, assertion_alike, target_alike, mechanism_alike, waveform_alike}
 
 module _ (objects : Objects) (w : Setting) (scope : Scope) (notable : NamesAreNotable objects scope) where
@@ -86,6 +86,7 @@ module _ (objects : Objects) (w : Setting) (scope : Scope) (notable : NamesAreNo
       goes : (n : Notes) (b : Bool) → Grows n (if b then n else noted place UnequalBranches n)
       goes n true = grows_same n
       goes n false = grows_noted place UnequalBranches n
+
       same : (n : Notes) (b : Bool) → SameLists n (if b then n else noted place UnequalBranches n)
       same n true = lists_same n
       same n false = lists_noted place UnequalBranches n

@@ -1,5 +1,5 @@
 -- Dots and thresholds that are noted while concurrent and simultaneous statements are read.
-use Rattle.std.specs.Prelude.{ℕ, List, Option}
+use Rattle.std.specs.Prelude.{List, Option}
 use Rattle.ams_token.specs.declared.token.Place.{Place}
 use Rattle.ams_tree.specs.declared.concurrent.ConditionalWaveform.{ConditionalWaveform}
 use Rattle.ams_tree.specs.declared.concurrent.Equation.{Equation}

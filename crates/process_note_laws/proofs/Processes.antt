@@ -41,7 +41,7 @@ use Rattle.note_laws.proofs.Notes.{SameLists, lists_same, lists_noted, Alike, al
 use Rattle.part_note_laws.proofs.Parts.{finished_alike, sensitivity_alike}
 use Rattle.part_note_laws.proofs.Statements.{statements_note_alike}
 use Rattle.body_note_laws.proofs.Names.{named_holds, inside_holds}
-use Rattle.body_note_laws.proofs.Bodies.{Drafts, all_alike}
+use Rattle.body_note_laws.proofs.Bodies.{same_before, Drafts, all_alike}
 use Rattle.process_note_laws.specs.Noted.{ConcurrentStatementsNoteAlike}
 use Rattle.process_note_laws.proofs.Values.{FindsSame, valued_same, constant_fits}
 
@@ -89,7 +89,7 @@ module _ (objects : Objects) where
   variable_keeps texts v n m s u x h =
       named_alike (thing.Variable (length s.draft.variables) v.subtype) (thing.Variable (length u.draft.variables) v.subtype)
       (ap (λ (l : List Variable). thing.Variable (length l) v.subtype) h.variables) tt x n m (before_variable texts v x s) (before_variable texts v x u)
-      (record { scope = h.scope; variables = ap (λ (l : List Variable). l ++ _) h.variables; notes = h.notes; notable = h.notable })
+      (record { scope = h.scope; variables = same_before s.draft.variables u.draft.variables _ h.variables; notes = h.notes; notable = h.notable })
 
   constant_keeps : (v : Valued) → IsNotable objects (constant_of v) → Keeps (constant v) (constant v)
   constant_keeps v there n m s u x h = named_alike (constant_of v) (constant_of v) refl there x n m s u h
@@ -156,7 +156,8 @@ module _ (objects : Objects) where
   -- ---- the whole
 
   end_alike : (label end : Option Name) (n m : Notes) → Alike objects n m (end_name label end n) (end_name label end m)
-  end_alike label None n m = alike_same objects n m
+  end_alike None None n m = alike_same objects n m
+  end_alike (Some l) None n m = alike_same objects n m
   end_alike None (Some x) n m = alike_noted objects x.place WrongType n m
   end_alike (Some l) (Some x) n m = go (nat_eq l.number x.number)
     where

@@ -1,4 +1,4 @@
-use Rattle.kind_laws.proofs.Kinds.{kinds_are_counted}
+use Rattle.kind_laws.proofs.Counted.{kinds_are_counted}
 use Rattle.kind_laws.proofs.kinds_are_counted.Goals as goal
 
 pub returns : goal.returns
