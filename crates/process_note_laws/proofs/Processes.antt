@@ -52,6 +52,7 @@ module _ (objects : Objects) where
       goes : (o : Option Thing) (n : Notes) → Grows n (duplicate x o n)
       goes None n = grows_same n
       goes (Some t) n = grows_noted x.place (Duplicate x.number) n
+
       same : (o : Option Thing) (n : Notes) → SameLists n (duplicate x o n)
       same None n = lists_same n
       same (Some t) n = lists_noted x.place (Duplicate x.number) n
