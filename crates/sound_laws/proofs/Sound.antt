@@ -38,10 +38,10 @@ use Rattle.design_rules.specs.Types.{IsVisible}
 use Rattle.reading_laws.proofs.Closing.{IsClosed, reading_keeps}
 use Rattle.typed_laws.specs.Fitting.{FitsValue, FitsThing, ScopeFits}
 use Rattle.typed_laws.proofs.Literals.{number_in, time_in, content_in}
-use Rattle.sound_laws.specs.Sound.{HasSoundValue, KnownValuesAreOfTheirTypes}
+use Rattle.sound_laws.specs.Sound.{GivesValue, GivesValues, HasSoundValue, KnownValuesFollow, KnownValuesAreOfTheirTypes}
 use Rattle.sound_laws.proofs.Values.{unary_sound, joined_sound, call_sound, element_sound}
 
-module _ (objects : flat.Scope) (Sees : ℕ → Type 0) where
+module _ (objects : flat.Scope) where
   -- ---- literals
 
   in_range_known : (place : Place) (o : Option Val) (n : Notes) → IfSome o (λ v. IsTrue (is_in_range objects.enumerations v)) → IfSome (in_range place o n).1 (HasSoundValue objects)
@@ -63,7 +63,7 @@ module _ (objects : flat.Scope) (Sees : ℕ → Type 0) where
 
   -- ---- names
 
-  constant_known : (place : Place) (k : Kind) (v : Option Val) (n : Notes) → FitsValue objects k v → IfSome (constant place k v n).1 (HasSoundValue objects)
+  constant_known : (place : Place) (k : Kind) (v : Option Val) (n : Notes) → IfSome v (λ (x : Val). FitsValue objects k (Some x)) → IfSome (constant place k v n).1 (HasSoundValue objects)
   constant_known place k (Some v) n h = h
   constant_known place k None n h = tt
 
@@ -73,13 +73,13 @@ module _ (objects : flat.Scope) (Sees : ℕ → Type 0) where
   now_known c surrounding.Equation place n = tt
   now_known c surrounding.Condition place n = tt
 
-  named_of : (c : Context) (x : Name) (t : Thing) (n : Notes) → FitsThing objects Sees t → IfSome (named c x (Some t) n).1 (HasSoundValue objects)
+  named_of : (c : Context) (x : Name) (t : Thing) (n : Notes) → GivesValue objects t → IfSome (named c x (Some t) n).1 (HasSoundValue objects)
   named_of c x (thing.Constant s v) n h = constant_known x.place s.kind v n h
   named_of c x (thing.Literal v) n h = record { kind_is = refl; range = h }
   named_of c x thing.Now n h = now_known c c.surrounding x.place n
   named_of c x _ n h = tt
 
-  named_known : (c : Context) (x : Name) (found : Option Thing) (n : Notes) → IfSome found (FitsThing objects Sees) → IfSome (named c x found n).1 (HasSoundValue objects)
+  named_known : (c : Context) (x : Name) (found : Option Thing) (n : Notes) → IfSome found (GivesValue objects) → IfSome (named c x found n).1 (HasSoundValue objects)
   named_known c x (Some t) n h = named_of c x t n h
   named_known c x None n h = tt
 
@@ -97,21 +97,21 @@ module _ (objects : flat.Scope) (Sees : ℕ → Type 0) where
       go true = element_at_known x.place s i (named c x (Some t) n).1 (named c x (Some t) n).0
       go false = tt
 
-  applied_known : (c : Context) (x : Name) (t : Thing) (f : Option Function) (a : Typed) (n : Notes) → function_at t a.kind ≡ f → FitsThing objects Sees t → HasSoundValue objects a → IfSome (applied c x t f a n).1 (HasSoundValue objects)
-  applied_known c x t (Some f) a n is h g = call_sound objects Sees t f a.kind a.value h is g
+  applied_known : (c : Context) (x : Name) (t : Thing) (f : Option Function) (a : Typed) (n : Notes) → function_at t a.kind ≡ f → GivesValue objects t → HasSoundValue objects a → IfSome (applied c x t f a n).1 (HasSoundValue objects)
+  applied_known c x t (Some f) a n is h g = call_sound objects t f a.kind a.value h is g
   applied_known c x t None a n is h g = indexed_known c x t (vector_at t) a n
 
-  call_with_known : (c : Context) (x : Name) (t : Thing) (all : List Typed) (n : Notes) → FitsThing objects Sees t → All (HasSoundValue objects) all → IfSome (call_with c x t all n).1 (HasSoundValue objects)
+  call_with_known : (c : Context) (x : Name) (t : Thing) (all : List Typed) (n : Notes) → GivesValue objects t → All (HasSoundValue objects) all → IfSome (call_with c x t all n).1 (HasSoundValue objects)
   call_with_known c x t [] n h g = tt
   call_with_known c x t (a ∷ []) n h g = applied_known c x t (function_at t a.kind) a n refl h (g 0 a (omega arith))
   call_with_known c x t (a ∷ b ∷ more) n h g = tt
 
-  call_of : (c : Context) (x : Name) (t : Thing) (all : Option (List Typed)) (n : Notes) → FitsThing objects Sees t → IfSome all (All (HasSoundValue objects)) → IfSome (call_at c x (Some t) all n).1 (HasSoundValue objects)
+  call_of : (c : Context) (x : Name) (t : Thing) (all : Option (List Typed)) (n : Notes) → GivesValue objects t → IfSome all (All (HasSoundValue objects)) → IfSome (call_at c x (Some t) all n).1 (HasSoundValue objects)
   call_of c x thing.Faulty all n h g = tt
   call_of c x t None n h g = tt
   call_of c x t (Some all) n h g = call_with_known c x t all n h g
 
-  call_at_known : (c : Context) (x : Name) (found : Option Thing) (all : Option (List Typed)) (n : Notes) → IfSome found (FitsThing objects Sees) → IfSome all (All (HasSoundValue objects)) → IfSome (call_at c x found all n).1 (HasSoundValue objects)
+  call_at_known : (c : Context) (x : Name) (found : Option Thing) (all : Option (List Typed)) (n : Notes) → IfSome found (GivesValue objects) → IfSome all (All (HasSoundValue objects)) → IfSome (call_at c x found all n).1 (HasSoundValue objects)
   call_at_known c x (Some t) all n h g = call_of c x t all n h g
   call_at_known c x None all n h g = tt
 
@@ -215,24 +215,47 @@ module _ (objects : flat.Scope) (Sees : ℕ → Type 0) where
   paren_known place (Some a) n h = h
   paren_known place None n h = tt
 
-sound_closed : (objects : flat.Scope) (Sees : ℕ → Type 0) (texts : List (List ℕ)) (scope : Scope) → ScopeFits objects Sees scope → IsClosed texts scope (λ (n : Notes). Unit {0}) (HasSoundValue objects)
-sound_closed objects Sees texts scope fits =
+sound_closed : (objects : flat.Scope) (texts : List (List ℕ)) (scope : Scope) → GivesValues objects scope → IsClosed texts scope (λ (n : Notes). Unit {0}) (HasSoundValue objects)
+sound_closed objects texts scope gives =
     record {
       down = λ a b g k. tt;
-      number = λ x unit n. number_known objects Sees texts (lookup scope) x.place x.value unit n;
-      literal = λ x n. in_range_known objects Sees x.place (content_literal texts x.value) n (content_in objects.enumerations texts x.value);
-      name = λ c x n. named_known objects Sees c x (lookup scope x.number) n (fits x.number);
-      call = λ c x all n h. call_at_known objects Sees c x (lookup scope x.number) all n (fits x.number) h;
-      event = λ c x n. event_known objects Sees c c.surrounding x (lookup scope x.number) n;
-      dot = λ c x n k. dot_known objects Sees c x (lookup scope x.number) n;
-      reference = λ c x n. reference_known objects Sees c x (lookup scope x.number) n;
-      above = λ x level n k. above_known objects Sees x (lookup scope x.number) level n;
-      ramp = λ x fine n. ramp_known objects Sees x (lookup scope x.number) fine n;
-      paren = λ place a n h. paren_known objects Sees place a n h;
-      unary = λ op place a n h. unary_at_known objects Sees op place a n h;
-      binary = λ op a b n h g. binary_at_known objects Sees op a b n h g;
+      number = λ x unit n. number_known objects texts (lookup scope) x.place x.value unit n;
+      literal = λ x n. in_range_known objects x.place (content_literal texts x.value) n (content_in objects.enumerations texts x.value);
+      name = λ c x n. named_known objects c x (lookup scope x.number) n (gives x.number);
+      call = λ c x all n h. call_at_known objects c x (lookup scope x.number) all n (gives x.number) h;
+      event = λ c x n. event_known objects c c.surrounding x (lookup scope x.number) n;
+      dot = λ c x n k. dot_known objects c x (lookup scope x.number) n;
+      reference = λ c x n. reference_known objects c x (lookup scope x.number) n;
+      above = λ x level n k. above_known objects x (lookup scope x.number) level n;
+      ramp = λ x fine n. ramp_known objects x (lookup scope x.number) fine n;
+      paren = λ place a n h. paren_known objects place a n h;
+      unary = λ op place a n h. unary_at_known objects op place a n h;
+      binary = λ op a b n h g. binary_at_known objects op a b n h g;
     }
+
+pub known_values_follow : KnownValuesFollow
+known_values_follow objects texts scope x c n gives =
+    (reading_keeps texts scope (λ (n : Notes). Unit {0}) (HasSoundValue objects) (sound_closed objects texts scope gives) x c n).right tt
+
+-- ---- in a scope that fits
+
+given_value : (objects : flat.Scope) (k : Kind) (v : Option Val) → FitsValue objects k v → IfSome v (λ (x : Val). FitsValue objects k (Some x))
+given_value objects k (Some v) h = h
+given_value objects k None h = tt
+
+thing_gives : (objects : flat.Scope) (Sees : ℕ → Type 0) (t : Thing) → FitsThing objects Sees t → GivesValue objects t
+thing_gives objects Sees (thing.Constant s v) h = given_value objects s.kind v h
+thing_gives objects Sees (thing.Literal v) h = h
+thing_gives objects Sees (thing.Function f) h = h
+thing_gives objects Sees _ h = tt
+
+some_gives : (objects : flat.Scope) (Sees : ℕ → Type 0) (o : Option Thing) → IfSome o (FitsThing objects Sees) → IfSome o (GivesValue objects)
+some_gives objects Sees (Some t) h = thing_gives objects Sees t h
+some_gives objects Sees None h = tt
+
+pub scope_gives : (objects : flat.Scope) (Sees : ℕ → Type 0) (scope : Scope) → ScopeFits objects Sees scope → GivesValues objects scope
+scope_gives objects Sees scope fits name = some_gives objects Sees (lookup scope name) (fits name)
 
 pub known_values_are_of_their_types : KnownValuesAreOfTheirTypes
 known_values_are_of_their_types objects variables parameters texts scope x c n fits =
-    (reading_keeps texts scope (λ (n : Notes). Unit {0}) (HasSoundValue objects) (sound_closed objects (IsVisible variables parameters) texts scope fits) x c n).right tt
+    known_values_follow objects texts scope x c n (scope_gives objects (IsVisible variables parameters) scope fits)

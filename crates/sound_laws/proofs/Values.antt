@@ -33,7 +33,8 @@ use Rattle.design_meaning.specs.Value.{called, element}
 use Rattle.design_meaning.specs.Typed as flat
 use Rattle.design_meaning.specs.Typed.{IsOfType, call_type}
 use Rattle.value_types.proofs.Types.{decided_typed, called_typed, element_typed}
-use Rattle.typed_laws.specs.Fitting.{FitsValue, FitsThing}
+use Rattle.typed_laws.specs.Fitting.{FitsValue}
+use Rattle.sound_laws.specs.Sound.{GivesValue}
 use Rattle.static_laws.specs.Known.{OnKnown}
 use Rattle.static_laws.proofs.Values.{function_known, element_known_of}
 
@@ -179,11 +180,11 @@ module _ (objects : flat.Scope) where
       subst (λ (z : Function). OnKnown (Fits (Of (kind_of_call z))) (static.call_value z x)) same (value_sound function.Integer Real x refl of)
   conversion_sound g f k x is of = absurd (cc)
 
-  pub call_sound : (Sees : ℕ → Type 0) (t : Thing) (f : Function) (k : Kind) (x : StaticValue) → FitsThing objects Sees t → function_at t k ≡ Some f → OnKnown (Fits k) x
+  pub call_sound : (t : Thing) (f : Function) (k : Kind) (x : StaticValue) → GivesValue objects t → function_at t k ≡ Some f → OnKnown (Fits k) x
       → OnKnown (Fits (Of (kind_of_call f))) (static.call_value f x)
-  call_sound Sees (thing.Function g) f k x h is of = real_sound g f k x is h of
-  call_sound Sees (thing.Type s (Some g)) f k x h is of = conversion_sound g f k x is of
-  call_sound Sees _ f k x h is of = absurd (cc)
+  call_sound (thing.Function g) f k x h is of = real_sound g f k x is h of
+  call_sound (thing.Type s (Some g)) f k x h is of = conversion_sound g f k x is of
+  call_sound _ f k x h is of = absurd (cc)
 
   -- ---- elements
 

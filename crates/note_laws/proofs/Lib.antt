@@ -1,0 +1,4 @@
+pub mod Members
+pub mod Notes
+pub mod Steps
+pub mod Reading
