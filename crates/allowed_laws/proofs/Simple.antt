@@ -110,9 +110,6 @@ once_all R all h = folded_all R [] all (All-nil R) h
 
 -- ---- texts
 
-is_character : ℕ → Bool
-is_character b = nat_lt b 128 && not (nat_eq b 10)
-
 abbrev are_characters : List ℕ → Bool
 are_characters [] = true
 are_characters (b ∷ all) = (nat_lt b 128 && not (nat_eq b 10)) && are_characters all
@@ -194,8 +191,8 @@ module _ (objects : Objects) (p : Process) (ps : List ℕ) (w : Setting) (scope 
 
   -- ---- variables
 
-  variable_set : (to : ℕ × Subtype) → IsPlace objects p ps to → (x : Typed) → IsRead (process_scope objects p) (IsVisible p.variables ps) x → OnKept Stands (setting_variable to x)
-  variable_set to at x h =
+  variable_set : (to : ℕ × Subtype) (x : Typed) → IsPlace objects p ps to → IsRead (process_scope objects p) (IsVisible p.variables ps) x → OnKept Stands (setting_variable to x)
+  variable_set to x at h =
       where_kept Statement Stands (suits to.1 (value_of x)) (statement.VariableAssignment to.0 (range_part to.1.constraint) x.expr)
       (λ is.
       stands_as objects p ps (statement.VariableAssignment to.0 (range_part to.1.constraint) x.expr) (Statement-F.VariableAssignment to.0 (range_part to.1.constraint) x.expr)

@@ -17,7 +17,7 @@ use Rattle.ams_tree.specs.declared.sequential.Iteration.TheVariants as iteration
 use Rattle.ams_tree.specs.declared.sequential.Seq.{Seq}
 use Rattle.ams_tree.specs.declared.sequential.Seq.TheOpen.{Branch-F, Alternative-F, Seq-F}
 use Rattle.ams_tree.specs.declared.sequential.Seq.TheViews.{roll-Seq, roll-Alternative, roll-Branch}
-use Rattle.ams_tree.specs.declared.sequential.Seq.TheFolds.{map-Seq, map-Alternative, map-Branch, fold-roll-Seq, fold-roll-Alternative, fold-roll-Branch, ind-Seq}
+use Rattle.ams_tree.specs.declared.sequential.Seq.TheFolds.{map-Seq, map-Alternative, map-Branch, fold-roll-Seq, fold-roll-Alternative, fold-roll-Branch, ind-Seq, ind-Alternative, ind-Branch}
 use Rattle.ams_tree.specs.declared.sequential.WaveformElement.{WaveformElement}
 use Rattle.ams_value.specs.declared.value_type.ValueType.TheVariants as t
 use Rattle.flat_expr.specs.declared.statement.Statement.{Statement}
@@ -317,12 +317,26 @@ module _ (w : Setting) where
       (sym (fold-roll-Branch (Reads Statement) CaseReads BranchReads (seq_step w) (alternative_step w) (branch_step w) (record { condition = y.condition; body = seqs_of y.body })))
       (branch_grows y.condition y.body)
 
+  abbrev seq_case : (x : Seq-F Seq WrittenAlternative WrittenBranch) (y : Seq-F SeqPart AlternativePart BranchPart)
+      → map-Seq SeqPart AlternativePart BranchPart Seq WrittenAlternative WrittenBranch (λ p. p.0) (λ p. p.0) (λ p. p.0) y ≡ x → SeqGrows (roll-Seq x)
+  seq_case x y is = subst (λ (z : Seq-F Seq WrittenAlternative WrittenBranch). SeqGrows (roll-Seq z)) is (seq_steps y)
+
+  abbrev alternative_case : (x : Alternative-F Seq WrittenAlternative WrittenBranch) (y : Alternative-F SeqPart AlternativePart BranchPart)
+      → map-Alternative SeqPart AlternativePart BranchPart Seq WrittenAlternative WrittenBranch (λ p. p.0) (λ p. p.0) (λ p. p.0) y ≡ x → AlternativeGrows (roll-Alternative x)
+  alternative_case x y is = subst (λ (z : Alternative-F Seq WrittenAlternative WrittenBranch). AlternativeGrows (roll-Alternative z)) is (alternative_steps y)
+
+  abbrev branch_case : (x : Branch-F Seq WrittenAlternative WrittenBranch) (y : Branch-F SeqPart AlternativePart BranchPart)
+      → map-Branch SeqPart AlternativePart BranchPart Seq WrittenAlternative WrittenBranch (λ p. p.0) (λ p. p.0) (λ p. p.0) y ≡ x → BranchGrows (roll-Branch x)
+  branch_case x y is = subst (λ (z : Branch-F Seq WrittenAlternative WrittenBranch). BranchGrows (roll-Branch z)) is (branch_steps y)
+
   pub statement_grows : (s : Seq) → SeqGrows s
-  statement_grows =
-      ind-Seq SeqGrows AlternativeGrows BranchGrows
-      (λ x y is. subst (λ (z : Seq-F Seq WrittenAlternative WrittenBranch). SeqGrows (roll-Seq z)) is (seq_steps y))
-      (λ x y is. subst (λ (z : Alternative-F Seq WrittenAlternative WrittenBranch). AlternativeGrows (roll-Alternative z)) is (alternative_steps y))
-      (λ x y is. subst (λ (z : Branch-F Seq WrittenAlternative WrittenBranch). BranchGrows (roll-Branch z)) is (branch_steps y))
+  statement_grows = ind-Seq SeqGrows AlternativeGrows BranchGrows seq_case alternative_case branch_case
+
+  pub alternative_of_grows : (a : WrittenAlternative) → AlternativeGrows a
+  alternative_of_grows = ind-Alternative SeqGrows AlternativeGrows BranchGrows seq_case alternative_case branch_case
+
+  pub branch_of_grows : (b : WrittenBranch) → BranchGrows b
+  branch_of_grows = ind-Branch SeqGrows AlternativeGrows BranchGrows seq_case alternative_case branch_case
 
   -- so do lists of statements
   pub all_grow : (all : List Seq) (scope : Scope) (spot : Spot) (i : ℕ) (d : Draft) → DraftGrows d (body (map (statement_of w) all) scope spot i d).0
@@ -330,6 +344,20 @@ module _ (w : Setting) where
   all_grow (s ∷ more) scope spot i d =
       let first = statement_of w s scope spot i d in
       draft_on d first.0 (body (map (statement_of w) more) scope spot (i + 1) first.0).0 (statement_grows s scope spot i d) (all_grow more scope spot (i + 1) first.0)
+
+  pub branches_of_grow : (all : List WrittenBranch) (scope : Scope) (spot : Spot) (i k : ℕ) (d : Draft) → DraftGrows d (branches (map (branch_of w) all) scope spot i k d).0
+  branches_of_grow [] scope spot i k d = draft_same d
+  branches_of_grow (b ∷ more) scope spot i k d =
+      let first = branch_of w b scope (way_to spot i k) d in
+      draft_on d first.0 (branches (map (branch_of w) more) scope spot i (k + 1) first.0).0 (branch_of_grows b scope (way_to spot i k) d) (branches_of_grow more scope spot i (k + 1) first.0)
+
+  pub alternatives_of_grow : (all : List WrittenAlternative) (scope : Scope) (spot : Spot) (i b : ℕ) (k : Option Kind) (seen : Seen) (d : Draft)
+      → DraftGrows d (alternatives (map (alternative_of w) all) scope spot i b k seen d).0
+  alternatives_of_grow [] scope spot i b k seen d = draft_same d
+  alternatives_of_grow (a ∷ more) scope spot i b k seen d =
+      let first = alternative_of w a scope (way_to spot i b) k seen d in
+      draft_on d first.0 (alternatives (map (alternative_of w) more) scope spot i (b + 1) k first.1.0 first.0).0 (alternative_of_grows a scope (way_to spot i b) k seen d)
+      (alternatives_of_grow more scope spot i (b + 1) k first.1.0 first.0)
 
 pub statements_add : StatementsAdd
 statements_add w s scope spot i d = statement_grows w s scope spot i d

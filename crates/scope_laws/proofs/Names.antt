@@ -15,11 +15,12 @@ module _ (P : Option Thing → Type 0) where
       go : (b : Bool) → P (cond b (Some t) None)
       go true = more h
       go false = h
-  behind (e ∷ region) name t x h more = go (nat_eq x e.0) h
+  behind (e ∷ region) name t x h more = go (nat_eq x e.0) h (λ k. behind region name t x k more)
     where
-      go : (b : Bool) → P (cond b (Some e.1) (declared_in region x)) → P (cond b (Some e.1) (declared_in (region ++ (name, t) ∷ []) x))
-      go true k = k
-      go false k = behind region name t x k more
+      go : (b : Bool) → P (cond b (Some e.1) (declared_in region x)) → (P (declared_in region x) → P (declared_in (region ++ (name, t) ∷ []) x))
+          → P (cond b (Some e.1) (declared_in (region ++ (name, t) ∷ []) x))
+      go true k rest = k
+      go false k rest = rest k
 
   pub with_one : (region : Region) (name : ℕ) (t : Thing) (x : ℕ) → P (declared_in region x) → (P None → P (Some t)) → P (declared_in (with_thing region name t) x)
   with_one region name t x h more = go (declared_in region name)

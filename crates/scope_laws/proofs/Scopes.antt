@@ -1,9 +1,8 @@
 -- What keeps a scope right.
-use Rattle.std.proofs.Common.{◌≡◌, ℕ, ◌⊎◌, inl, inr, Bool, true, List, [], ◌++◌, append_assoc, append-nil, Option, Some, None, IfSome, refl, ap, sym, ◌∙◌}
+use Rattle.std.proofs.Common.{◌≡◌, ℕ, inl, inr, true, List, [], ◌++◌, append_assoc, append-nil, Option, Some, None, IfSome, ap, sym, ◌∙◌}
 use Rattle.std.specs.Prelude.{nat_eq}
-use Rattle.std.specs.List.{slice_get, list_any}
+use Rattle.std.specs.List.{list_any}
 use Rattle.ams_value.specs.declared.val.Val.{Val}
-use Rattle.ams_value.specs.declared.value_type.ValueType.{ValueType}
 use Rattle.ams_value.specs.declared.value_type.ValueType.TheVariants as t
 use Rattle.flat_design.specs.declared.objects.Variable.{Variable}
 use Rattle.flat_design.specs.declared.objects.Process.{Process}
@@ -22,10 +21,10 @@ use Rattle.name_scope.specs.declared.scope.Scope.{Scope}
 use Rattle.name_scope.specs.Scopes.{lookup, with_name, inside}
 use Rattle.unit_meaning.specs.Units.{start_of}
 use Rattle.design_meaning.specs.Typed as flat
-use Rattle.design_rules.specs.Types.{sizes_of, equation_scope, process_scope, IsDeclared, IsVisible}
+use Rattle.design_rules.specs.Types.{sizes_of, equation_scope, process_scope, IsVisible}
 use Rattle.reading_laws.specs.Growing.{Extends}
 use Rattle.typed_laws.specs.Fitting.{FitsValue, FitsKind, FitsTerminal, FitsThing}
-use Rattle.scope_laws.specs.Holds.{AlsoFits, ScopeHolds, StandsBefore}
+use Rattle.scope_laws.specs.Holds.{AlsoFits, ScopeHolds}
 use Rattle.scope_laws.specs.Laws.{ThingHolds, ScopesHold}
 use Rattle.scope_laws.proofs.Names.{named_holds, inside_holds}
 use Rattle.scope_laws.proofs.Start.{start_holds}

@@ -1,5 +1,5 @@
 -- The predefined names.
-use Rattle.std.proofs.Common.{◌≡◌, ℕ, Bool, List, [], ◌∷◌, length, Option, Some, None, IfSome, IsTrue, ◌<◌, get_or, refl, ap, sym, subst, ◌∙◌}
+use Rattle.std.proofs.Common.{◌≡◌, ℕ, arith, true, List, [], ◌∷◌, length, Option, Some, None, IfSome, ◌<◌, get_or, refl, ap, sym, subst, ◌∙◌}
 use Rattle.std.specs.Prelude.{nat_lt, position}
 use Rattle.std.specs.List.{fold, slice_get}
 use Rattle.std.specs.Option.{option_map}
@@ -8,18 +8,13 @@ use Rattle.std.specs.Str.{bytes_eq}
 use Rattle.flat_design.specs.declared.objects.Enumeration.{Enumeration}
 use Rattle.flat_design.specs.declared.objects.Objects.{Objects}
 use Rattle.ams_value.specs.declared.value_type.ValueType.TheVariants as t
-use Rattle.ams_value.specs.declared.val.Val.{Val}
 use Rattle.ams_value.specs.declared.val.Val.TheVariants as val
-use Rattle.ams_value.specs.Types.{is_in_range}
-use Rattle.name_scope.specs.declared.thing.Subtype.{Subtype}
 use Rattle.name_scope.specs.declared.thing.Thing.{Thing}
 use Rattle.name_scope.specs.declared.thing.Thing.TheVariants as thing
 use Rattle.name_scope.specs.Scopes.{Region, declared_in, visible, lookup}
-use Rattle.unit_meaning.specs.Units.{whole, predefined, with_numbered, with_predefined, start_of}
-use Rattle.design_rules.specs.Types.{sizes_of, equation_scope, IsVisible}
+use Rattle.unit_meaning.specs.Units.{predefined, with_numbered, with_predefined, start_of}
+use Rattle.design_rules.specs.Types.{sizes_of, equation_scope}
 use Rattle.design_rules.specs.Design.{domain_type}
-use Rattle.typed_laws.specs.Fitting.{FitsThing}
-use Rattle.scope_laws.specs.Holds.{SubtypeFits, ScopeHolds}
 use Rattle.scope_laws.specs.Laws.{ThingHolds}
 use Rattle.scope_laws.proofs.Names.{with_one}
 
@@ -67,35 +62,85 @@ module _ (objects : Objects) (domain : slice_get objects.enumerations 0 ≡ Some
   sizes = sizes_of objects
 
   each : Every Holds predefined
-  each =
-      ( record { fits = tt; also = record { kind = t.Boolean; kind_is = refl; range = tt; values = tt } }
-      , record { fits = tt; also = record { kind = t.Bit; kind_is = refl; range = tt; values = tt } }
-      , record { fits = tt; also = record { kind = t.Integer; kind_is = refl; range = tt; values = tt } }
-      , record { fits = tt; also = record { kind = t.Integer; kind_is = refl; range = (refl, refl); values = tt } }
-      , record { fits = tt; also = record { kind = t.Integer; kind_is = refl; range = (refl, refl); values = tt } }
-      , record { fits = tt; also = record { kind = t.Real; kind_is = refl; range = tt; values = tt } }
-      , record { fits = tt; also = record { kind = t.Real; kind_is = refl; range = tt; values = tt } }
-      , record { fits = tt; also = record { kind = t.Real; kind_is = refl; range = tt; values = tt } }
-      , record { fits = tt; also = record { kind = t.Time; kind_is = refl; range = tt; values = tt } }
-      , record { fits = tt; also = record { kind = t.Enumeration 0; kind_is = refl; range = tt; values = some_literals } }
-      , record { fits = tt; also = tt }
-      , record { fits = refl; also = tt }
-      , record { fits = refl; also = tt }
-      , record { fits = refl; also = tt }
-      , record { fits = refl; also = tt }
-      , record { fits = refl; also = tt }
-      , record { fits = refl; also = tt }
-      , record { fits = record { kind_is = refl; range = refl }; also = record { kind = t.Real; kind_is = refl; range = tt; values = tt } }
-      , record { fits = record { kind_is = refl; range = refl }; also = record { kind = t.Real; kind_is = refl; range = tt; values = tt } }
-      , record { fits = tt; also = tt }
-      , record { fits = tt; also = tt }
-      , record { fits = tt; also = tt }
-      , record { fits = tt; also = tt }
-      , literal 0 refl
-      , literal 1 refl
-      , literal 2 refl
-      , tt
-      )
+  each = (
+    record { fits = tt; also = record { kind = t.Boolean; kind_is = refl; range = tt; values = tt; indexed = tt } },
+    (
+      record { fits = tt; also = record { kind = t.Bit; kind_is = refl; range = tt; values = tt; indexed = tt } },
+      (
+        record { fits = tt; also = record { kind = t.Integer; kind_is = refl; range = tt; values = tt; indexed = tt } },
+        (
+          record { fits = tt; also = record { kind = t.Integer; kind_is = refl; range = (refl, refl); values = tt; indexed = tt } },
+          (
+            record { fits = tt; also = record { kind = t.Integer; kind_is = refl; range = (refl, refl); values = tt; indexed = tt } },
+            (
+              record { fits = tt; also = record { kind = t.Real; kind_is = refl; range = tt; values = tt; indexed = tt } },
+              (
+                record { fits = tt; also = record { kind = t.Real; kind_is = refl; range = tt; values = tt; indexed = tt } },
+                (
+                  record { fits = tt; also = record { kind = t.Real; kind_is = refl; range = tt; values = tt; indexed = tt } },
+                  (
+                    record { fits = tt; also = record { kind = t.Time; kind_is = refl; range = tt; values = tt; indexed = tt } },
+                    (
+                      record { fits = tt; also = record { kind = t.Enumeration 0; kind_is = refl; range = tt; values = some_literals; indexed = tt } },
+                      (
+                        record { fits = tt; also = tt },
+                        (
+                          record { fits = refl; also = tt },
+                          (
+                            record { fits = refl; also = tt },
+                            (
+                              record { fits = refl; also = tt },
+                              (
+                                record { fits = refl; also = tt },
+                                (
+                                  record { fits = refl; also = tt },
+                                  (
+                                    record { fits = refl; also = tt },
+                                    (
+                                      record { fits = record { kind_is = refl; range = refl }; also = record { kind = t.Real; kind_is = refl; range = tt; values = tt; indexed = tt } },
+                                      (
+                                        record { fits = record { kind_is = refl; range = refl }; also = record { kind = t.Real; kind_is = refl; range = tt; values = tt; indexed = tt } },
+                                        (
+                                          record { fits = tt; also = tt },
+                                          (
+                                            record { fits = tt; also = tt },
+                                            (
+                                              record { fits = tt; also = tt },
+                                              (
+                                                record { fits = tt; also = tt },
+                                                (
+                                                  literal 0 refl,
+                                                  (
+                                                    literal 1 refl,
+                                                    (
+                                                      literal 2 refl,
+                                                      tt,
+                                                    ),
+                                                  ),
+                                                ),
+                                              ),
+                                            ),
+                                          ),
+                                        ),
+                                      ),
+                                    ),
+                                  ),
+                                ),
+                              ),
+                            ),
+                          ),
+                        ),
+                      ),
+                    ),
+                  ),
+                ),
+              ),
+            ),
+          ),
+        ),
+      ),
+    ),
+  )
 
   -- each predefined name stands for something that the design has
   pub start_holds : (texts : List (List ℕ)) → (x : ℕ) → IfSome (lookup (start_of texts) x) Holds

@@ -1,6 +1,7 @@
 -- Scopes whose names stand for what a flat design has.
-use Rattle.std.specs.Prelude.{◌≡◌, ℕ, List, [], Option, IfSome}
+use Rattle.std.specs.Prelude.{◌≡◌, ℕ, List, [], IfSome}
 use Rattle.ams_value.specs.declared.value_type.ValueType.{ValueType}
+use Rattle.ams_value.specs.declared.value_type.ValueType.TheVariants.{BitVector}
 use Rattle.flat_design.specs.declared.objects.Variable.{Variable}
 use Rattle.flat_design.specs.declared.objects.Signal.{Signal}
 use Rattle.flat_design.specs.declared.objects.Quantity.{Quantity}
@@ -9,6 +10,8 @@ use Rattle.flat_design.specs.declared.objects.Enumeration.{Enumeration}
 use Rattle.flat_design.specs.declared.objects.Objects.{Objects}
 use Rattle.name_scope.specs.declared.thing.Kind.TheVariants.{Of}
 use Rattle.name_scope.specs.declared.thing.Subtype.{Subtype}
+use Rattle.name_scope.specs.declared.thing.SubtypeConstraint.{SubtypeConstraint}
+use Rattle.name_scope.specs.declared.thing.SubtypeConstraint.TheVariants as constraint
 use Rattle.name_scope.specs.declared.thing.Thing.{Thing}
 use Rattle.name_scope.specs.declared.thing.Thing.TheVariants as thing
 use Rattle.name_scope.specs.declared.scope.Scope.{Scope}
@@ -18,12 +21,18 @@ use Rattle.elab_meaning.specs.Declarations.{range_part}
 use Rattle.design_meaning.specs.Typed as flat
 use Rattle.design_rules.specs.Types.{FitsType, IsDeclared, IsVisible}
 use Rattle.reading_laws.specs.Growing.{Extends}
-use Rattle.typed_laws.specs.Fitting.{FitsThing, ScopeFits}
+use Rattle.typed_laws.specs.Fitting.{ScopeFits}
 use Rattle.initial_laws.specs.Initial.{HasValues}
 
 -- no rule is broken so far
 abbrev pub HasNoFaults : Notes → Type 0
 HasNoFaults n = n.faults ≡ []
+
+-- a vector has the range of its index
+abbrev pub IsIndexed : ValueType → SubtypeConstraint → Type 0
+IsIndexed (BitVector n) (constraint.Index r) = Unit {0}
+IsIndexed (BitVector n) c = ⊥
+IsIndexed k c = Unit {0}
 
 -- a subtype of a known type that has values, its bounds in the range of the type
 pub record SubtypeFits (sizes : List ℕ) (s : Subtype) : Type 0 where
@@ -31,6 +40,7 @@ pub record SubtypeFits (sizes : List ℕ) (s : Subtype) : Type 0 where
   pub kind_is : s.kind ≡ Of kind
   pub range : FitsType sizes kind (range_part s.constraint)
   pub values : HasValues sizes kind
+  pub indexed : IsIndexed kind s.constraint
 
 -- what is asked of a name's thing beside FitsThing: its subtype fits; a variable is one that the process declares
 abbrev pub AlsoFits : List ℕ → List Variable → Thing → Type 0

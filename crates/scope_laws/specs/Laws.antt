@@ -1,7 +1,6 @@
 -- What keeps a scope right.
-use Rattle.std.specs.Prelude.{◌≡◌, ℕ, true, nat_eq, List, [], get_or, Some}
+use Rattle.std.specs.Prelude.{◌≡◌, ℕ, true, nat_eq, List, [], Some}
 use Rattle.std.specs.List.{slice_get, list_any}
-use Rattle.ams_value.specs.declared.value_type.ValueType.{ValueType}
 use Rattle.flat_design.specs.declared.objects.Variable.{Variable}
 use Rattle.flat_design.specs.declared.objects.Process.{Process}
 use Rattle.flat_design.specs.declared.objects.Objects.{Objects}
