@@ -25,7 +25,7 @@ use Rattle.draft_laws.specs.Drafts.{DraftGrows}
 use Rattle.draft_laws.proofs.Drafts.{extends_on}
 use Rattle.allowed_laws.specs.Simple.{IsSelectorAt, SelectorsFit}
 use Rattle.allowed_laws.proofs.Targets.{kind_at}
-use Rattle.body_laws.specs.Bodies.{StandsIn, ScopeStands, AreParameters}
+use Rattle.body_laws.specs.Bodies.{StandsIn, Keeps, ScopeStands, AreParameters}
 use Rattle.body_laws.proofs.Lists.{any_end, any_more, any_split, front_at, at_end, none_at_end}
 
 pub stands_before : (objects : Objects) (p : Process) (a b : Draft) → DraftGrows a b → StandsIn objects p b → StandsIn objects p a
@@ -79,13 +79,13 @@ next_is_new xs ps h any =
 
 -- ---- the scope of a loop
 
-module _ (objects : Objects) (p : Process) (ps : List ℕ) (w : Setting) (Also : Thing → Type 0) (scope : Scope) (i x : ℕ) where
+module _ (objects : Objects) (p : Process) (ps : List ℕ) (w : Setting) (Also : Thing → Bool) (scope : Scope) (i x : ℕ) where
   selectors_in : SelectorsFit objects w scope → SelectorsFit objects w (with_name (inside scope) x (thing.Parameter i))
   selectors_in h y any =
       with_one (λ (o : Option Thing). IfSome (or_in (visible o) (among (inside scope).outer y)) (IsSelectorAt objects)) (inside scope).inner x (thing.Parameter i) y
       (subst (λ (o : Option Thing). IfSome o (IsSelectorAt objects)) (sym (inside_same scope y)) (h y any)) (λ k. tt)
 
-  pub scope_in_loop : (v : Variable) → slice_get p.variables i ≡ Some v → v.kind ≡ Integer → Also (thing.Parameter i) → ScopeStands objects p ps w Also scope
+  pub scope_in_loop : (v : Variable) → slice_get p.variables i ≡ Some v → v.kind ≡ Integer → Keeps Also (thing.Parameter i) → ScopeStands objects p ps w Also scope
       → ScopeStands objects p (ps ++ i ∷ []) w Also (with_name (inside scope) x (thing.Parameter i))
   scope_in_loop v at kind also h =
       record {
@@ -95,5 +95,5 @@ module _ (objects : Objects) (p : Process) (ps : List ℕ) (w : Setting) (Also :
             (scopes_hold.in_loop (process_scope objects p) p.variables ps (ps ++ i ∷ []) scope (λ j is. any_more j ps i is) h.holds))
             (record { fits = (kind_at Variable (λ (z : Variable). z.kind) p.variables i v at ∙ ap Some kind, inr (any_end i ps)); also = tt });
         selectors = selectors_in h.selectors;
-        also = named_holds Also (inside scope) x (thing.Parameter i) (inside_holds Also scope h.also) also;
+        also = named_holds (Keeps Also) (inside scope) x (thing.Parameter i) (inside_holds (Keeps Also) scope h.also) also;
       }

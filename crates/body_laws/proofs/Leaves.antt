@@ -180,7 +180,7 @@ assigns_it w scope to delay xs n =
 
 -- ---- at their places
 
-module _ (objects : Objects) (p : Process) (w : Setting) (Also : Thing → Type 0) (scope : Scope) (spot : Spot) (i : ℕ) (around : ScopeStands objects p spot.parameters w Also scope) where
+module _ (objects : Objects) (p : Process) (w : Setting) (Also : Thing → Bool) (scope : Scope) (spot : Spot) (i : ℕ) (around : ScopeStands objects p spot.parameters w Also scope) where
   abbrev May : Statement → Type 0
   May = MayStand objects p spot.parameters
 

@@ -85,7 +85,7 @@ and_right false b h = absurd (cc)
 is_less : (m n : ℕ) → nat_lt m n ≡ true → m < n
 is_less m n h = grind (arith, nat_tests)
 
-module _ (objects : Objects) (p : Process) (w : Setting) (Also : Thing → Type 0) (around : AroundStands objects p w Also) where
+module _ (objects : Objects) (p : Process) (w : Setting) (Also : Thing → Bool) (around : AroundStands objects p w Also) where
   abbrev Here : List ℕ → Scope → Type 0
   Here ps scope = ScopeStands objects p ps w Also scope
 

@@ -1,5 +1,5 @@
 -- Sequential statements in their process.
-use Rattle.std.specs.Prelude.{◌≡◌, ◌⊎◌, ℕ, true, nat_eq, List, [], ◌∷◌, ◌++◌, map, length, Some, IfSome}
+use Rattle.std.specs.Prelude.{◌≡◌, ◌⊎◌, ℕ, Bool, true, nat_eq, List, [], ◌∷◌, ◌++◌, map, length, Some, IfSome}
 use Rattle.std.specs.List.{slice_get, list_any, flat_map}
 use Rattle.ams_tree.specs.declared.sequential.Alternative.{Alternative as WrittenAlternative}
 use Rattle.ams_tree.specs.declared.sequential.Seq.{Seq}
@@ -42,19 +42,23 @@ pub record StandsIn (objects : Objects) (p : Process) (d : Draft) : Type 0 where
   pub drivers : Extends ℕ d.drivers p.drivers
   pub waits : Extends WaitPlace d.waits p.waits
 
+-- a further rule of what names stand for holds of this
+abbrev pub Keeps : (Thing → Bool) → Thing → Type 0
+Keeps also t = also t ≡ true
+
 -- the names in a scope of the process, in loops with these parameters. `Also` is a further rule of what names stand for, as the
 -- choices of a case ask it
-pub record ScopeStands (objects : Objects) (p : Process) (ps : List ℕ) (w : Setting) (Also : Thing → Type 0) (scope : Scope) : Type 0 where
+pub record ScopeStands (objects : Objects) (p : Process) (ps : List ℕ) (w : Setting) (Also : Thing → Bool) (scope : Scope) : Type 0 where
   pub holds : ScopeHolds (process_scope objects p) p.variables ps scope
   pub selectors : SelectorsFit objects w scope
-  pub also : (x : ℕ) → IfSome (lookup scope x) Also
+  pub also : (x : ℕ) → IfSome (lookup scope x) (Keeps Also)
 
 -- these variables are parameters of loops
 abbrev pub AreParameters : List Variable → List ℕ → Type 0
 AreParameters variables ps = (i : ℕ) → list_any (nat_eq i) ps ≡ true → (x : Variable) × (slice_get variables i ≡ Some x) × (x.is_parameter ≡ true)
 
 -- the choices of a case that is read for an expression of this type are right, where they cover the type
-abbrev pub CasesFit : Objects → Process → Setting → (Thing → Type 0) → Type 0
+abbrev pub CasesFit : Objects → Process → Setting → (Thing → Bool) → Type 0
 CasesFit objects p w Also =
     (ps : List ℕ) (scope : Scope) (spot : Spot) (i : ℕ) (k : ValueType) (e : FlatExpr) (all : List WrittenAlternative) (d : Draft)
     → ScopeStands objects p ps w Also scope → HasType (process_scope objects p) e k
@@ -65,10 +69,10 @@ CasesFit objects p w Also =
       (alternatives (map (alternative_of w) all) scope spot i 0 (Some (Of k)) nothing_seen d).1.1
 
 -- the texts, the choices of cases, and that the further rule holds of parameters
-pub record AroundStands (objects : Objects) (p : Process) (w : Setting) (Also : Thing → Type 0) : Type 0 where
+pub record AroundStands (objects : Objects) (p : Process) (w : Setting) (Also : Thing → Bool) : Type 0 where
   pub texts : HasTexts w
   pub cases : CasesFit objects p w Also
-  pub parameters : (i : ℕ) → Also (thing.Parameter i)
+  pub parameters : (i : ℕ) → Keeps Also (thing.Parameter i)
 
 -- ---- what is shown
 
@@ -84,7 +88,7 @@ pub record BodyIs (objects : Objects) (p : Process) (spot : Spot) (i : ℕ) (bef
 
 abbrev pub BodiesStand : Type 0
 BodiesStand =
-    (objects : Objects) (p : Process) (w : Setting) (Also : Thing → Type 0) → AroundStands objects p w Also
+    (objects : Objects) (p : Process) (w : Setting) (Also : Thing → Bool) → AroundStands objects p w Also
     → (all : List Seq) → AreWritten all → (scope : Scope) (spot : Spot) (i : ℕ) (d : Draft)
     → ScopeStands objects p spot.parameters w Also scope → AreParameters d.variables spot.parameters
     → StandsIn objects p (body (map (statement_of w) all) scope spot i d).0

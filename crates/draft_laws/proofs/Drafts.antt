@@ -1,7 +1,8 @@
 -- Each statement only adds to the draft of its process.
-use Rattle.std.proofs.Common.{◌≡◌, ℕ, ◌+◌, Bool, true, false, if◌then◌else◌, List, [], ◌∷◌, ◌++◌, length, map, append_assoc, append-nil, Option, Some, None, refl, sym, ap, ◌∙◌, subst}
+use Rattle.std.proofs.Common.{◌≡◌, ℕ, zero, suc, arith, ◌+◌, Bool, true, false, if◌then◌else◌, List, [], ◌∷◌, ◌++◌, length, map, append_assoc, append-nil, Option, Some, None, refl, sym, ap, ◌∙◌, subst}
 use Rattle.std.specs.Prelude.{nat_eq}
-use Rattle.std.specs.List.{list_any}
+use Rattle.std.specs.List.{All, list_any}
+use Rattle.std.proofs.lemmas.List.Elements.{All-append, All-nil}
 use Rattle.ams_token.specs.declared.token.Place.{Place}
 use Rattle.ams_tree.specs.declared.expression.Name.{Name}
 use Rattle.ams_tree.specs.declared.expression.Expr.{Expr}
@@ -35,6 +36,7 @@ use Rattle.name_scope.specs.Scopes.{lookup, inside, with_name}
 use Rattle.elab_meaning.specs.declared.fault.Notes.{Notes}
 use Rattle.elab_meaning.specs.declared.part.Part.{Part}
 use Rattle.elab_meaning.specs.declared.part.Part.TheVariants.{Kept, Wrong, Hidden}
+use Rattle.elab_meaning.specs.Notes.{text_of}
 use Rattle.elab_meaning.specs.Expressions.{expression, static_in}
 use Rattle.elab_meaning.specs.Parts.{closed, found_thing}
 use Rattle.unit_meaning.specs.declared.draft.Draft.{Draft}
@@ -48,7 +50,7 @@ use Rattle.unit_meaning.specs.Sequential.{with_notes, with_driver, with_paramete
 use Rattle.reading_laws.specs.Growing.{Extends, Grows}
 use Rattle.reading_laws.proofs.Growing.{grows_same, grows_on}
 use Rattle.reading_laws.proofs.Reading.{reading_adds_notes}
-use Rattle.draft_laws.specs.Drafts.{DraftGrows, alternative_of, branch_of, StatementsAdd}
+use Rattle.draft_laws.specs.Drafts.{loop_parameter, IsLoopParameter, DraftGrows, alternative_of, branch_of, StatementsAdd}
 use Rattle.draft_laws.proofs.Notes.{grows_closed, grows_found, grows_must, grows_may, grows_target, grows_assignment, grows_sensitivity, grows_breaks, grows_choices}
 
 -- ---- lists
@@ -66,32 +68,37 @@ extends_on A xs ys zs p q =
 -- ---- drafts
 
 pub draft_same : (d : Draft) → DraftGrows d d
-draft_same d = record { notes = grows_same d.notes; variables = extends_same Variable d.variables; drivers = extends_same ℕ d.drivers; waits = extends_same WaitPlace d.waits }
+draft_same d = record { notes = grows_same d.notes; variables = extends_same Variable d.variables; parameters = All-nil IsLoopParameter; drivers = extends_same ℕ d.drivers; waits = extends_same WaitPlace d.waits }
 
 pub draft_on : (a b c : Draft) → DraftGrows a b → DraftGrows b c → DraftGrows a c
 draft_on a b c p q =
     record {
       notes = grows_on a.notes b.notes c.notes p.notes q.notes;
       variables = extends_on Variable a.variables b.variables c.variables p.variables q.variables;
+      parameters = All-append IsLoopParameter p.variables.more q.variables.more p.parameters q.parameters;
       drivers = extends_on ℕ a.drivers b.drivers c.drivers p.drivers q.drivers;
       waits = extends_on WaitPlace a.waits b.waits c.waits p.waits q.waits;
     }
 
 pub draft_notes : (d : Draft) (n : Notes) → Grows d.notes n → DraftGrows d (with_notes n d)
-draft_notes d n h = record { notes = h; variables = extends_same Variable d.variables; drivers = extends_same ℕ d.drivers; waits = extends_same WaitPlace d.waits }
+draft_notes d n h = record { notes = h; variables = extends_same Variable d.variables; parameters = All-nil IsLoopParameter; drivers = extends_same ℕ d.drivers; waits = extends_same WaitPlace d.waits }
+
+one_parameter : (name : List ℕ) → All IsLoopParameter (loop_parameter name ∷ [])
+one_parameter name zero d lt = (name, refl)
+one_parameter name (suc i) d lt = absurd (omega arith)
 
 pub draft_parameter : (texts : List (List ℕ)) (x : Name) (d : Draft) → DraftGrows d (with_parameter texts x d)
-draft_parameter texts x d = record { notes = grows_same d.notes; variables = extends_one Variable d.variables _; drivers = extends_same ℕ d.drivers; waits = extends_same WaitPlace d.waits }
+draft_parameter texts x d = record { notes = grows_same d.notes; variables = extends_one Variable d.variables (loop_parameter (text_of texts x.number)); parameters = one_parameter (text_of texts x.number); drivers = extends_same ℕ d.drivers; waits = extends_same WaitPlace d.waits }
 
 pub draft_wait : (spot : Spot) (i : ℕ) (d : Draft) → DraftGrows d (with_wait spot i d)
-draft_wait spot i d = record { notes = grows_same d.notes; variables = extends_same Variable d.variables; drivers = extends_same ℕ d.drivers; waits = extends_one WaitPlace d.waits _ }
+draft_wait spot i d = record { notes = grows_same d.notes; variables = extends_same Variable d.variables; parameters = All-nil IsLoopParameter; drivers = extends_same ℕ d.drivers; waits = extends_one WaitPlace d.waits _ }
 
 pub draft_driver : (i : ℕ) (d : Draft) → DraftGrows d (with_driver i d)
 draft_driver i d = go (list_any (nat_eq i) d.drivers)
   where
     go : (b : Bool) → DraftGrows d (if b then d else record d { drivers = d.drivers ++ i ∷ [] })
     go true = draft_same d
-    go false = record { notes = grows_same d.notes; variables = extends_same Variable d.variables; drivers = extends_one ℕ d.drivers i; waits = extends_same WaitPlace d.waits }
+    go false = record { notes = grows_same d.notes; variables = extends_same Variable d.variables; parameters = All-nil IsLoopParameter; drivers = extends_one ℕ d.drivers i; waits = extends_same WaitPlace d.waits }
 
 draft_driving : (to : Part (ℕ × Subtype)) (d : Draft) → DraftGrows d (driving to d)
 draft_driving (Kept to) d = draft_driver to.0 d
@@ -100,7 +107,7 @@ draft_driving Hidden d = draft_same d
 
 simple_grows : (place : Place) (a d : Draft) (found : Notes × Part Statement) → DraftGrows a d → Grows a.notes found.0 → DraftGrows a (simple place d found).0
 simple_grows place a d found h g =
-    record { notes = grows_on a.notes found.0 (closed place found.1 found.0) g (grows_closed Statement place found.1 found.0); variables = h.variables; drivers = h.drivers; waits = h.waits }
+    record { notes = grows_on a.notes found.0 (closed place found.1 found.0) g (grows_closed Statement place found.1 found.0); variables = h.variables; parameters = h.parameters; drivers = h.drivers; waits = h.waits }
 
 whole_grows : (place : Place) (d : Draft) (found : Draft × Part Statement) → DraftGrows d found.0 → DraftGrows d (whole place found).0
 whole_grows place d found h =
