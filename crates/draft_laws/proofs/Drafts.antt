@@ -55,13 +55,13 @@ use Rattle.draft_laws.proofs.Notes.{grows_closed, grows_found, grows_must, grows
 
 -- ---- lists
 
-pub extends_same : (A : Type 0) (xs : List A) → Extends A xs xs
+abbrev pub extends_same : (A : Type 0) (xs : List A) → Extends A xs xs
 extends_same A xs = record { more = []; whole = sym (append-nil xs) }
 
-pub extends_one : (A : Type 0) (xs : List A) (x : A) → Extends A xs (xs ++ x ∷ [])
+abbrev pub extends_one : (A : Type 0) (xs : List A) (x : A) → Extends A xs (xs ++ x ∷ [])
 extends_one A xs x = record { more = x ∷ []; whole = refl }
 
-pub extends_on : (A : Type 0) (xs ys zs : List A) → Extends A xs ys → Extends A ys zs → Extends A xs zs
+abbrev pub extends_on : (A : Type 0) (xs ys zs : List A) → Extends A xs ys → Extends A ys zs → Extends A xs zs
 extends_on A xs ys zs p q =
     record { more = p.more ++ q.more; whole = q.whole ∙ (ap (λ (l : List A). l ++ q.more) p.whole ∙ append_assoc xs p.more q.more) }
 
