@@ -49,22 +49,21 @@ use Rattle.elab_meaning.specs.declared.part.Part.{Part}
 use Rattle.elab_meaning.specs.declared.part.Part.TheVariants.{Kept, Wrong, Hidden}
 use Rattle.elab_meaning.specs.declared.typed.Typed.{Typed}
 use Rattle.elab_meaning.specs.Declarations.{range_part}
-use Rattle.elab_meaning.specs.Notes.{watched, text_of}
+use Rattle.elab_meaning.specs.Notes.{watched}
 use Rattle.elab_meaning.specs.Parts.{judged, both, found_thing}
 use Rattle.elab_meaning.specs.Subtypes.{suits}
 use Rattle.unit_meaning.specs.declared.draft.Draft.{Draft}
 use Rattle.unit_meaning.specs.Settings.{Setting, running, typed, value_of, must_be, may_be, condition, paired}
 use Rattle.unit_meaning.specs.Waveforms.{target, mechanism, waveform, assigning, assignment}
-use Rattle.unit_meaning.specs.Bare.{signal_of, level_at, threshold_at, static_part, watched_attribute, watched_name, watched_signal, inside_attribute, wrong_both, always_wrong, wrong_name, with_signal, once, once_kept, sensitivity, signals_in, signals_in_some, named_quantity, quantity_at, selector_at, selecting, setting, break_element, break_elements}
+use Rattle.unit_meaning.specs.Bare.{signal_of, level_at, threshold_at, static_part, watched_attribute, watched_name, watched_signal, wrong_both, always_wrong, wrong_name, with_signal, once, once_kept, sensitivity, signals_in, signals_in_some, named_quantity, quantity_at, selector_at, selecting, setting, break_element, break_elements}
 use Rattle.unit_meaning.specs.Sequential.{variable_of, setting_variable, variable_assignment, waited_for, waiting, wait_statement, content_text, text_or, severity_or, assertion_parts, asserted, assertion, reported, report, broken, break_statement}
 use Rattle.cycle_meaning.specs.Task.{Layer}
 use Rattle.cycle_meaning.specs.World.{drives}
-use Rattle.design_meaning.specs.Typed.{signal_type, if_true}
-use Rattle.design_rules.specs.Types.{sizes_of, FitsType, equation_scope, process_scope, IsVisible, IsExpression}
+use Rattle.design_meaning.specs.Typed.{if_true}
+use Rattle.design_rules.specs.Types.{process_scope, IsVisible, IsExpression}
 use Rattle.design_rules.specs.Equations.{IsSelector}
-use Rattle.design_rules.specs.Statements.{MayBe, IsWaveElement, IsSignalName, IsBreakElement, IsText, IsAllowed}
+use Rattle.design_rules.specs.Statements.{MayBe, IsSignalName, IsBreakElement, IsText, IsAllowed}
 use Rattle.reading_laws.specs.Growing.{Grows}
-use Rattle.reading_laws.proofs.Growing.{grows_same, grows_on}
 use Rattle.typed_laws.specs.Fitting.{FitsKind, FitsThing, HasRoom, IsRead}
 use Rattle.typed_laws.proofs.Attributes.{member_placed}
 use Rattle.typed_laws.proofs.Literals.{at_least, is_below}
@@ -74,11 +73,9 @@ use Rattle.part_laws.proofs.Parts.{judged_kept, both_kept, where_kept, AllOf, Ev
 use Rattle.part_laws.proofs.Process.{kept_as, process_parts_fit}
 use Rattle.statement_laws.specs.Statements.{MayStand, HasCondition, HasLimit, AreElements}
 use Rattle.statement_laws.proofs.Statements.{statement_parts_fit}
-use Rattle.draft_laws.proofs.Notes.{grows_found, grows_may, grows_must, grows_sensitivity, grows_signal, grows_breaks, grows_break_element, grows_quantity, grows_selector, grows_target}
+use Rattle.draft_laws.proofs.Notes.{grows_sensitivity, grows_signal, grows_break_element}
 use Rattle.scope_laws.specs.Holds.{ScopeHolds}
-use Rattle.scope_laws.specs.Laws.{ThingHolds}
-use Rattle.scope_laws.proofs.Scopes.{each_thing}
-use Rattle.allowed_laws.specs.Simple.{HasTexts, IsSelectorAt, SelectorsFit, IsDriven, Allows, SimpleStatementsAreAllowed}
+use Rattle.allowed_laws.specs.Simple.{HasTexts, IsSelectorAt, SelectorsFit, IsDriven, SimpleStatementsAreAllowed}
 use Rattle.allowed_laws.proofs.Signals.{Named, signals_are_named}
 use Rattle.allowed_laws.proofs.Targets.{any_part, never_kept, found_kept, IsTarget, IsPlace, target_kept, place_kept, suits_kind}
 

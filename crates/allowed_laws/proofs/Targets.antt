@@ -1,5 +1,5 @@
 -- What is assigned: signals and variables of the design by their names.
-use Rattle.std.proofs.Common.{◌≡◌, ℕ, zero, suc, arith, Bool, true, false, List, [], ◌∷◌, map, Option, Some, None, IfSome, refl, ap, sym, ◌∙◌, subst}
+use Rattle.std.proofs.Common.{◌≡◌, ℕ, zero, suc, Bool, true, false, List, [], ◌∷◌, map, Option, Some, None, IfSome, refl, ap, sym, ◌∙◌, subst}
 use Rattle.std.specs.Prelude.{◌&&◌}
 use Rattle.std.specs.List.{slice_get}
 use Rattle.ams_tree.specs.declared.expression.Name.{Name}
@@ -25,14 +25,14 @@ use Rattle.elab_meaning.specs.Declarations.{range_part}
 use Rattle.elab_meaning.specs.Kinds.{same_kind}
 use Rattle.elab_meaning.specs.Parts.{judged, both, found_thing}
 use Rattle.elab_meaning.specs.Subtypes.{suits, holds_known}
-use Rattle.unit_meaning.specs.Settings.{Setting, known_of, value_of}
+use Rattle.unit_meaning.specs.Settings.{known_of, value_of}
 use Rattle.unit_meaning.specs.Waveforms.{target_of, target}
 use Rattle.unit_meaning.specs.Sequential.{variable_of}
 use Rattle.design_meaning.specs.Typed.{HasType}
 use Rattle.design_rules.specs.Types.{sizes_of, FitsType, process_scope, IsDeclared, IsVisible, IsExpression}
 use Rattle.typed_laws.specs.Fitting.{FitsKind, HasKind, IsRead}
 use Rattle.part_laws.specs.Parts.{OnKept}
-use Rattle.part_laws.proofs.Parts.{same_type_is, judged_kept, both_kept}
+use Rattle.part_laws.proofs.Parts.{same_type_is, judged_kept}
 use Rattle.scope_laws.specs.Holds.{SubtypeFits, ScopeHolds}
 use Rattle.scope_laws.specs.Laws.{ThingHolds}
 use Rattle.scope_laws.proofs.Scopes.{each_thing}

@@ -8,8 +8,6 @@ use Rattle.ams_tree.specs.declared.sequential.Report.{Report}
 use Rattle.ams_tree.specs.declared.sequential.BreakElement.{BreakElement}
 use Rattle.ams_tree.specs.declared.sequential.DelayMechanism.{DelayMechanism}
 use Rattle.ams_tree.specs.declared.sequential.WaveformElement.{WaveformElement}
-use Rattle.flat_expr.specs.declared.expr.SignalName.{SignalName}
-use Rattle.flat_expr.specs.declared.statement.BreakElement.{BreakElement as Broken}
 use Rattle.flat_expr.specs.declared.statement.Statement.{Statement}
 use Rattle.flat_design.specs.declared.objects.Objects.{Objects}
 use Rattle.flat_design.specs.declared.objects.Process.{Process}
@@ -24,7 +22,6 @@ use Rattle.elab_meaning.specs.Notes.{text_of}
 use Rattle.unit_meaning.specs.declared.draft.Draft.{Draft}
 use Rattle.unit_meaning.specs.Settings.{Setting}
 use Rattle.unit_meaning.specs.Waveforms.{target, assignment}
-use Rattle.unit_meaning.specs.Bare.{sensitivity, break_elements}
 use Rattle.unit_meaning.specs.Sequential.{variable_assignment, wait_statement, assertion, report, break_statement}
 use Rattle.cycle_meaning.specs.World.{drives}
 use Rattle.design_rules.specs.Types.{process_scope}

@@ -1,5 +1,5 @@
 -- What stands round statements: drafts at the front of a process, scopes in loops, parameters.
-use Rattle.std.proofs.Common.{◌≡◌, ℕ, ◌⊎◌, inl, inr, ⊎_elim, Bool, true, false, if◌then◌else◌, List, [], ◌∷◌, ◌++◌, length, map, Option, Some, None, IfSome, IsTrue, refl, ap, sym, ◌∙◌, subst}
+use Rattle.std.proofs.Common.{◌≡◌, ℕ, ◌⊎◌, inl, inr, ⊎_elim, Bool, true, false, if◌then◌else◌, List, [], ◌∷◌, ◌++◌, length, Option, Some, IfSome, refl, ap, sym, ◌∙◌, subst}
 use Rattle.std.specs.Prelude.{nat_eq}
 use Rattle.std.specs.List.{slice_get, list_any}
 use Rattle.ams_value.specs.declared.value_type.ValueType.TheVariants.{Integer}
@@ -10,15 +10,13 @@ use Rattle.flat_design.specs.declared.objects.WaitPlace.{WaitPlace}
 use Rattle.name_scope.specs.declared.scope.Scope.{Scope}
 use Rattle.name_scope.specs.declared.thing.Thing.{Thing}
 use Rattle.name_scope.specs.declared.thing.Thing.TheVariants as thing
-use Rattle.name_scope.specs.Scopes.{declared_in, visible, or_in, among, lookup, inside, with_name}
+use Rattle.name_scope.specs.Scopes.{visible, or_in, among, inside, with_name}
 use Rattle.unit_meaning.specs.declared.draft.Draft.{Draft}
 use Rattle.unit_meaning.specs.Settings.{Setting}
 use Rattle.unit_meaning.specs.Sequential.{with_driver}
-use Rattle.design_rules.specs.Types.{process_scope, IsVisible}
+use Rattle.design_rules.specs.Types.{process_scope}
 use Rattle.reading_laws.specs.Growing.{Extends}
-use Rattle.typed_laws.specs.Fitting.{HasRoom}
 use Rattle.typed_laws.proofs.Typing.{room_before}
-use Rattle.scope_laws.specs.Holds.{ScopeHolds}
 use Rattle.scope_laws.proofs.Names.{with_one, named_holds, inside_same, inside_holds}
 use Rattle.scope_laws.proofs.Scopes.{scopes_hold}
 use Rattle.draft_laws.specs.Drafts.{DraftGrows}
@@ -26,7 +24,7 @@ use Rattle.draft_laws.proofs.Drafts.{extends_on}
 use Rattle.allowed_laws.specs.Simple.{IsSelectorAt, SelectorsFit}
 use Rattle.allowed_laws.proofs.Targets.{kind_at}
 use Rattle.body_laws.specs.Bodies.{StandsIn, Keeps, ScopeStands, AreParameters}
-use Rattle.body_laws.proofs.Lists.{any_end, any_more, any_split, front_at, at_end, none_at_end}
+use Rattle.body_laws.proofs.Lists.{any_end, any_more, any_split, front_at, none_at_end}
 
 pub stands_before : (objects : Objects) (p : Process) (a b : Draft) → DraftGrows a b → StandsIn objects p b → StandsIn objects p a
 stands_before objects p a b g h =

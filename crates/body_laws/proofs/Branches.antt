@@ -1,5 +1,5 @@
 -- Statements with others inside: the branches of an if, the alternatives of a case, the bodies of loops.
-use Rattle.std.proofs.Common.{◌≡◌, ◌≤◌, ◌<◌, ◌+◌, ℕ, zero, suc, arith, ◌⊎◌, inl, inr, ⊎_elim, Bool, true, false, List, [], ◌∷◌, ◌++◌, length, length-append, append-nil, append_assoc, Option, Some, None, refl, ap, sym, ◌∙◌, subst}
+use Rattle.std.proofs.Common.{◌≡◌, ◌≤◌, ◌<◌, ◌+◌, ℕ, zero, suc, arith, ◌⊎◌, inl, inr, ⊎_elim, true, List, [], ◌∷◌, ◌++◌, length, length-append, append-nil, append_assoc, refl, ap, sym, subst}
 use Rattle.std.specs.Prelude.{nat_eq}
 use Rattle.std.specs.List.{All, list_any}
 use Rattle.std.proofs.lemmas.List.Elements.{All-nil}
@@ -167,9 +167,10 @@ module _ (objects : Objects) (p : Process) where
   if_is spot i size before between after s arms last e h at drivers =
       record {
         places =
-            subst (HoldsHere (Stands objects p) spot.path spot.parameters i) (sym e)
-            (record { allowed = h.conditions; placed = tt; safe = tt; own = tt },
-              λ b le. without spot.path spot.parameters i b (branch_body arms last b) (moved spot.path spot.parameters i (0 + b) b (branch_body arms last b) (none_before b) (h.places last (moved spot.path spot.parameters i size (0 + length arms) last (total h.count) at) b le)));
+            subst (HoldsHere (Stands objects p) spot.path spot.parameters i) (sym e) (
+              record { allowed = h.conditions; placed = tt; safe = tt; own = tt },
+              λ b le. without spot.path spot.parameters i b (branch_body arms last b) (moved spot.path spot.parameters i (0 + b) b (branch_body arms last b) (none_before b) (h.places last (moved spot.path spot.parameters i size (0 + length arms) last (total h.count) at) b le)),
+            );
         drivers = λ j is.
             subst (λ (y : Layer). (list_any (nat_eq j) before ≡ true) ⊎ AssignsHere j y) (sym e)
             (⊎_elim
@@ -193,12 +194,13 @@ module _ (objects : Objects) (p : Process) where
   case_is spot i before after s layer arms e allowed placed safe own none inner down up h =
       record {
         places =
-            subst (HoldsHere (Stands objects p) spot.path spot.parameters i) (sym e)
-            (record { allowed = allowed; placed = placed; safe = safe; own = own },
+            subst (HoldsHere (Stands objects p) spot.path spot.parameters i) (sym e) (
+              record { allowed = allowed; placed = placed; safe = safe; own = own },
               λ b is.
-              subst (λ (l : List ℕ). At spot.path (spot.parameters ++ l) i b (inner_body b layer)) (sym none)
-              (without spot.path spot.parameters i b (inner_body b layer)
-              (subst (At spot.path spot.parameters i b) (sym (inner b)) (moved spot.path spot.parameters i (0 + b) b (alternative_body arms b) (none_before b) (h.places b (down b is))))));
+                  subst (λ (l : List ℕ). At spot.path (spot.parameters ++ l) i b (inner_body b layer)) (sym none)
+                  (without spot.path spot.parameters i b (inner_body b layer)
+                  (subst (At spot.path spot.parameters i b) (sym (inner b)) (moved spot.path spot.parameters i (0 + b) b (alternative_body arms b) (none_before b) (h.places b (down b is))))),
+            );
         drivers = λ j is.
             subst (λ (y : Layer). (list_any (nat_eq j) before ≡ true) ⊎ AssignsHere j y) (sym e)
             (⊎_elim (λ old. inl old) (λ there. inr (inr (there.0, up there.0 there.1, subst (Assigns j) (sym (inner there.0)) there.2))) (h.drivers j is));
@@ -216,11 +218,12 @@ module _ (objects : Objects) (p : Process) where
   loop_is spot i before after s layer all e allowed placed safe own inner down up h drivers =
       record {
         places =
-            subst (HoldsHere (Stands objects p) spot.path spot.parameters i) (sym e)
-            (record { allowed = allowed; placed = placed; safe = safe; own = own },
+            subst (HoldsHere (Stands objects p) spot.path spot.parameters i) (sym e) (
+              record { allowed = allowed; placed = placed; safe = safe; own = own },
               λ b is.
-              subst (At spot.path (spot.parameters ++ parameter_in layer) i b) (sym (inner b))
-              (moved spot.path (spot.parameters ++ parameter_in layer) i 0 b all (sym (down b is)) h));
+                  subst (At spot.path (spot.parameters ++ parameter_in layer) i b) (sym (inner b))
+                  (moved spot.path (spot.parameters ++ parameter_in layer) i 0 b all (sym (down b is)) h),
+            );
         drivers = λ j is.
             subst (λ (y : Layer). (list_any (nat_eq j) before ≡ true) ⊎ AssignsHere j y) (sym e)
             (⊎_elim (λ old. inl old) (λ new. inr (inr (0, up, subst (Assigns j) (sym (inner 0)) new))) (drivers j is));

@@ -1,5 +1,5 @@
 -- Statements that hold no others, at their places.
-use Rattle.std.proofs.Common.{◌≡◌, ◌<◌, ◌+◌, ℕ, ◌⊎◌, inl, inr, ⊎_elim, Bool, true, false, if◌then◌else◌, List, [], ◌∷◌, ◌++◌, length, Option, Some, None, IsTrue, refl, ap, sym, ◌∙◌, subst}
+use Rattle.std.proofs.Common.{◌≡◌, ◌<◌, ℕ, inl, inr, ⊎_elim, Bool, true, false, if◌then◌else◌, List, [], ◌∷◌, ◌++◌, length, Option, Some, IsTrue, refl, ap, sym, ◌∙◌, subst}
 use Rattle.std.specs.Prelude.{nat_eq}
 use Rattle.std.specs.List.{slice_get, list_any}
 use Rattle.ams_token.specs.declared.token.Place.{Place}
@@ -46,19 +46,16 @@ use Rattle.unit_meaning.specs.Waveforms.{target, mechanism, waveform, assigning,
 use Rattle.unit_meaning.specs.Bare.{sensitivity, break_elements}
 use Rattle.unit_meaning.specs.Sequential.{with_driver, with_wait, driving, variable_of, setting_variable, variable_assignment, in_loop, leaving, waiting, waited_for, wait_statement, text_or, content_text, severity_or, assertion_parts, asserted, assertion, reported, report, broken, break_statement, simple, signal_statement}
 use Rattle.cycle_meaning.specs.Task.{Layer}
-use Rattle.design_rules.specs.Ways.{IsBranch}
 use Rattle.design_rules.specs.Types.{process_scope}
 use Rattle.design_rules.specs.Statements.{IsVariableAssignment, IsAllowed}
-use Rattle.reading_laws.specs.Growing.{Extends, Grows}
+use Rattle.reading_laws.specs.Growing.{Extends}
 use Rattle.typed_laws.specs.Fitting.{HasRoom}
 use Rattle.typed_laws.proofs.Typing.{room_before}
 use Rattle.part_laws.specs.Parts.{OnKept}
 use Rattle.part_laws.proofs.Parts.{judged_kept, both_kept, where_kept}
 use Rattle.statement_laws.specs.Statements.{MayStand}
 use Rattle.statement_laws.proofs.Statements.{statement_parts_fit}
-use Rattle.place_laws.specs.Places.{HoldsHere, Stands, AssignsHere}
-use Rattle.draft_laws.specs.Drafts.{DraftGrows}
-use Rattle.draft_laws.proofs.Drafts.{draft_notes}
+use Rattle.place_laws.specs.Places.{HoldsHere, Stands}
 use Rattle.draft_laws.proofs.Notes.{grows_closed}
 use Rattle.allowed_laws.specs.Simple.{HasTexts}
 use Rattle.allowed_laws.proofs.Targets.{any_part, never_kept, IsTarget, target_kept}
@@ -173,9 +170,12 @@ assigns_it w scope to delay xs n =
     let m = mechanism w scope delay n in
     let elements = waveform w scope (Kept to) xs m.0 in
     judged_kept (Mechanism × List WaveElement) Statement (λ (x : Mechanism × List WaveElement). Unit {0}) (IsAssignmentOf to.0) (assigning to)
-    (λ made h.
-    (range_part to.1.constraint, made.0, made.1,
-      opens_as _ (Statement-F.SignalAssignment to.0 (range_part to.1.constraint) made.0 made.1) (rolls-SignalAssignment to.0 (range_part to.1.constraint) made.0 made.1)))
+    (λ made h. (
+      range_part to.1.constraint,
+      made.0,
+      made.1,
+      opens_as _ (Statement-F.SignalAssignment to.0 (range_part to.1.constraint) made.0 made.1) (rolls-SignalAssignment to.0 (range_part to.1.constraint) made.0 made.1),
+    ))
     (both paired m.1 elements.1) (any_part (Mechanism × List WaveElement) (both paired m.1 elements.1))
 
 -- ---- at their places
@@ -295,9 +295,12 @@ module _ (objects : Objects) (p : Process) (w : Setting) (Also : Thing → Bool)
       let behind = both paired x.1 (may_be w scope running _ time x.0).1 in
       both_kept (List SignalName) (Option FlatExpr × Option FlatExpr) Statement (λ (a : List SignalName). Unit {0}) (λ (o : Option FlatExpr × Option FlatExpr). Unit {0}) (IsWait (length d.waits))
       (waiting (length d.waits) names)
-      (λ on o h g.
-      (waited_for names on o.0, o.0, o.1,
-        opens_as _ (Statement-F.Wait (length d.waits) (waited_for names on o.0) o.0 o.1) (rolls-Wait (length d.waits) (waited_for names on o.0) o.0 o.1)))
+      (λ on o h g. (
+        waited_for names on o.0,
+        o.0,
+        o.1,
+        opens_as _ (Statement-F.Wait (length d.waits) (waited_for names on o.0) o.0 o.1) (rolls-Wait (length d.waits) (waited_for names on o.0) o.0 o.1),
+      ))
       all.1 behind (any_part (List SignalName) all.1) (any_part (Option FlatExpr × Option FlatExpr) behind)
 
   wait_made : (d : Draft) (s : Statement) → Extends WaitPlace (with_wait spot i d).waits p.waits → May s → IsWait (length d.waits) s → StatementIs objects p spot i d.drivers d.drivers s

@@ -1,5 +1,5 @@
 -- Each statement that is read stands right, by induction on the tree.
-use Rattle.std.proofs.Common.{◌≡◌, ◌<◌, ◌≤◌, ◌+◌, ℕ, zero, suc, arith, pos, ◌⊎◌, inl, inr, Bool, true, false, List, [], ◌∷◌, ◌++◌, length, map, Option, Some, None, IfSome, IsTrue, refl, ap, sym, ◌∙◌, subst}
+use Rattle.std.proofs.Common.{◌≡◌, ◌<◌, ◌+◌, ℕ, suc, arith, pos, Bool, true, false, List, [], ◌∷◌, length, map, Option, Some, None, refl, sym, ◌∙◌, subst}
 use Rattle.std.specs.Prelude.{nat_eq, nat_lt, ◌&&◌}
 use Rattle.std.specs.List.{All, list_any, slice_get, flat_map}
 use Rattle.std.proofs.lemmas.Bool.Decides.{nat_tests}
@@ -7,7 +7,6 @@ use Rattle.ams_token.specs.declared.token.Place.{Place}
 use Rattle.ams_tree.specs.declared.expression.Name.{Name}
 use Rattle.ams_tree.specs.declared.expression.Expr.{Expr}
 use Rattle.ams_tree.specs.declared.declaration.Direction.{Direction}
-use Rattle.ams_tree.specs.declared.declaration.Range.{Range}
 use Rattle.ams_tree.specs.declared.sequential.Alternative.{Alternative as WrittenAlternative}
 use Rattle.ams_tree.specs.declared.sequential.Branch.{Branch as WrittenBranch}
 use Rattle.ams_tree.specs.declared.sequential.Choice.{Choice}
@@ -22,7 +21,7 @@ use Rattle.ams_value.specs.declared.value_type.ValueType.{ValueType}
 use Rattle.ams_value.specs.declared.value_type.ValueType.TheVariants as t
 use Rattle.flat_expr.specs.declared.expr.FlatExpr.{FlatExpr}
 use Rattle.flat_expr.specs.declared.subtype.Constraint.TheVariants.{Whole}
-use Rattle.flat_expr.specs.declared.statement.Statement.{Statement, out-Statement}
+use Rattle.flat_expr.specs.declared.statement.Statement.{Statement}
 use Rattle.flat_expr.specs.declared.statement.Branch.{Branch}
 use Rattle.flat_expr.specs.declared.statement.Alternative.{Alternative, out-Alternative}
 use Rattle.flat_expr.specs.declared.statement.Statement.TheVariants as statement
@@ -47,32 +46,28 @@ use Rattle.elab_meaning.specs.Subtypes.{direction_of}
 use Rattle.unit_meaning.specs.declared.draft.Draft.{Draft}
 use Rattle.unit_meaning.specs.declared.draft.Seen.{Seen}
 use Rattle.unit_meaning.specs.declared.draft.Spot.{Spot}
-use Rattle.unit_meaning.specs.Settings.{Setting, running, typed, must_be, given, paired, ahead, sealed}
+use Rattle.unit_meaning.specs.Settings.{Setting, running, typed, must_be, given, paired, ahead}
 use Rattle.unit_meaning.specs.Cases.{choices, nothing_seen, covers}
-use Rattle.unit_meaning.specs.Sequential.{with_notes, with_parameter, way_to, looping, within_loop, Reads, CaseReads, BranchReads, body, made_branch, branch_step, branches, otherwise, made_if, made_alternative, alternative_step, alternatives, kind_known, made_case, case_statement, made_loop, made_for, loop_statement, whole, seq_step, statement_of}
+use Rattle.unit_meaning.specs.Sequential.{with_notes, with_parameter, way_to, looping, within_loop, Reads, CaseReads, BranchReads, body, made_branch, branch_step, branches, otherwise, made_if, made_alternative, alternative_step, alternatives, kind_known, made_case, made_loop, made_for, loop_statement, seq_step, statement_of}
 use Rattle.elab_meaning.specs.Notes.{text_of}
 use Rattle.design_rules.specs.Choices.{AreChoices}
 use Rattle.design_rules.specs.Types.{sizes_of, process_scope, variables_named, IsVisible, IsExpression}
-use Rattle.design_rules.specs.Statements.{MayBe, IsForLoop}
-use Rattle.reading_laws.specs.Growing.{Extends, Grows}
-use Rattle.reading_laws.proofs.Growing.{grows_on}
+use Rattle.design_rules.specs.Statements.{MayBe}
 use Rattle.typed_laws.specs.Fitting.{HasRoom, HasKind, IsRead}
 use Rattle.typed_laws.proofs.Typing.{room_before}
 use Rattle.part_laws.specs.Parts.{OnKept, KeepsPart}
 use Rattle.part_laws.proofs.Parts.{judged_kept, both_kept, where_kept, typed_keeps}
 use Rattle.part_laws.proofs.Process.{process_parts_fit}
-use Rattle.place_laws.specs.Places.{EachPlace, Stands, Assigns}
-use Rattle.place_laws.proofs.Places.{none_stands}
 use Rattle.written_laws.specs.Written.{AreWritten, is_written, written_step, alternative_step as alternative_written, branch_step as branch_written, all_true, all_true_in, has_some}
 use Rattle.draft_laws.specs.Drafts.{DraftGrows, alternative_of, branch_of}
-use Rattle.draft_laws.proofs.Notes.{grows_closed, grows_must, grows_choices}
-use Rattle.draft_laws.proofs.Drafts.{draft_on, draft_notes, draft_same, draft_parameter, statement_grows, branch_of_grows, alternative_of_grows, all_grow, branches_of_grow, alternatives_of_grow}
+use Rattle.draft_laws.proofs.Notes.{grows_closed}
+use Rattle.draft_laws.proofs.Drafts.{draft_notes, draft_same, statement_grows, branch_of_grows, alternative_of_grows, all_grow, branches_of_grow, alternatives_of_grow}
 use Rattle.allowed_laws.proofs.Targets.{any_part, never_kept}
 use Rattle.body_laws.specs.Bodies.{StandsIn, ScopeStands, AreParameters, AroundStands, StatementIs, BodyIs, BodiesStand}
 use Rattle.body_laws.proofs.Lists.{false_unless, end_at, end_below}
 use Rattle.body_laws.proofs.Around.{stands_before, parameters_on, parameters_more, next_is_new, scope_in_loop}
 use Rattle.body_laws.proofs.Leaves.{sealed_kept, together, opens_as, signal_is, variable_is, exit_is, next_is, wait_is, assertion_is, report_is, break_is, null_is}
-use Rattle.body_laws.proofs.Branches.{At, body_first, body_none, body_places, BranchesAre, no_branches, BranchIs, more_branches, AlternativesAre, no_alternatives, AlternativeIs, more_alternatives, without, if_is, case_is, loop_is}
+use Rattle.body_laws.proofs.Branches.{body_first, body_none, body_places, BranchesAre, no_branches, BranchIs, more_branches, AlternativesAre, no_alternatives, AlternativeIs, more_alternatives, without, if_is, case_is, loop_is}
 
 and_left : (a b : Bool) → (a && b) ≡ true → a ≡ true
 and_left true b h = refl
@@ -304,7 +299,7 @@ module _ (objects : Objects) (p : Process) (w : Setting) (Also : Thing → Bool)
       → OnKept (IsRead (process_scope objects p) (IsVisible p.variables spot.parameters)) e
       → OnKept (AlternativesAre objects p spot.path spot.parameters i 0 d.drivers (CaseFound scope spot i all d (kind_known e)).0.drivers) (CaseFound scope spot i all d (kind_known e)).1.1
       → OnKept (StatementIs objects p spot i d.drivers (CaseFound scope spot i all d (kind_known e)).0.drivers)
-        (both (made_case w (CaseFound scope spot i all d (kind_known e)).1.0) e (CaseFound scope spot i all d (kind_known e)).1.1)
+      (both (made_case w (CaseFound scope spot i all d (kind_known e)).1.0) e (CaseFound scope spot i all d (kind_known e)).1.1)
   case_made scope spot i all d (Kept x) here h g = case_kind scope spot i all d x.kind x here refl h.typed h.visible g
   case_made scope spot i all d Wrong here h g =
       never_kept Typed (List Alternative) Statement (StatementIs objects p spot i d.drivers (CaseFound scope spot i all d None).0.drivers) (made_case w (CaseFound scope spot i all d None).1.0)

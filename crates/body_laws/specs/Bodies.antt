@@ -1,5 +1,5 @@
 -- Sequential statements in their process.
-use Rattle.std.specs.Prelude.{◌≡◌, ◌⊎◌, ℕ, Bool, true, nat_eq, List, [], ◌∷◌, ◌++◌, map, length, Some, IfSome}
+use Rattle.std.specs.Prelude.{◌≡◌, ◌⊎◌, ℕ, Bool, true, nat_eq, List, ◌++◌, map, length, Some, IfSome}
 use Rattle.std.specs.List.{slice_get, list_any, flat_map}
 use Rattle.ams_tree.specs.declared.sequential.Alternative.{Alternative as WrittenAlternative}
 use Rattle.ams_tree.specs.declared.sequential.Seq.{Seq}
@@ -64,9 +64,9 @@ CasesFit objects p w Also =
     → ScopeStands objects p ps w Also scope → HasType (process_scope objects p) e k
     → covers w.enumerations (Of k) (alternatives (map (alternative_of w) all) scope spot i 0 (Some (Of k)) nothing_seen d).1.0 ≡ true
     → OnKept
-      (λ (arms : List Alternative).
-      AreChoices (sizes_of objects) k (flat_map (λ (a : Alternative). (out-Alternative a).choices) arms) (map (λ (a : Alternative). (out-Alternative a).others) arms))
-      (alternatives (map (alternative_of w) all) scope spot i 0 (Some (Of k)) nothing_seen d).1.1
+    (λ (arms : List Alternative).
+    AreChoices (sizes_of objects) k (flat_map (λ (a : Alternative). (out-Alternative a).choices) arms) (map (λ (a : Alternative). (out-Alternative a).others) arms))
+    (alternatives (map (alternative_of w) all) scope spot i 0 (Some (Of k)) nothing_seen d).1.1
 
 -- the texts, the choices of cases, and that the further rule holds of parameters
 pub record AroundStands (objects : Objects) (p : Process) (w : Setting) (Also : Thing → Bool) : Type 0 where

@@ -6,9 +6,7 @@ use Rattle.std.proofs.lemmas.List.Elements.{All-append, All-nil}
 use Rattle.ams_token.specs.declared.token.Place.{Place}
 use Rattle.ams_tree.specs.declared.expression.Name.{Name}
 use Rattle.ams_tree.specs.declared.expression.Expr.{Expr}
-use Rattle.ams_tree.specs.declared.declaration.Range.{Range}
 use Rattle.ams_tree.specs.declared.sequential.Alternative.{Alternative as WrittenAlternative}
-use Rattle.ams_tree.specs.declared.sequential.Assertion.{Assertion}
 use Rattle.ams_tree.specs.declared.sequential.Branch.{Branch as WrittenBranch}
 use Rattle.ams_tree.specs.declared.sequential.BreakElement.{BreakElement}
 use Rattle.ams_tree.specs.declared.sequential.Choice.{Choice}
@@ -22,9 +20,6 @@ use Rattle.ams_tree.specs.declared.sequential.Seq.TheFolds.{map-Seq, map-Alterna
 use Rattle.ams_tree.specs.declared.sequential.WaveformElement.{WaveformElement}
 use Rattle.ams_value.specs.declared.value_type.ValueType.TheVariants as t
 use Rattle.flat_expr.specs.declared.statement.Statement.{Statement}
-use Rattle.flat_expr.specs.declared.statement.Branch.{Branch}
-use Rattle.flat_expr.specs.declared.statement.Alternative.{Alternative}
-use Rattle.flat_expr.specs.declared.statement.Statement.TheVariants as statement
 use Rattle.flat_design.specs.declared.objects.Variable.{Variable}
 use Rattle.flat_design.specs.declared.objects.WaitPlace.{WaitPlace}
 use Rattle.name_scope.specs.declared.thing.Kind.{Kind}
@@ -37,7 +32,7 @@ use Rattle.elab_meaning.specs.declared.fault.Notes.{Notes}
 use Rattle.elab_meaning.specs.declared.part.Part.{Part}
 use Rattle.elab_meaning.specs.declared.part.Part.TheVariants.{Kept, Wrong, Hidden}
 use Rattle.elab_meaning.specs.Notes.{text_of}
-use Rattle.elab_meaning.specs.Expressions.{expression, static_in}
+use Rattle.elab_meaning.specs.Expressions.{static_in}
 use Rattle.elab_meaning.specs.Parts.{closed, found_thing}
 use Rattle.unit_meaning.specs.declared.draft.Draft.{Draft}
 use Rattle.unit_meaning.specs.declared.draft.Seen.{Seen}

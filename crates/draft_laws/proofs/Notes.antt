@@ -1,5 +1,5 @@
 -- Each part of a statement only adds to the notes.
-use Rattle.std.proofs.Common.{ℕ, Bool, true, false, List, [], ◌∷◌, ◌++◌, map, Option, Some, None}
+use Rattle.std.proofs.Common.{ℕ, List, [], ◌∷◌, ◌++◌, map, Option, Some, None}
 use Rattle.ams_token.specs.declared.token.Place.{Place}
 use Rattle.ams_tree.specs.declared.expression.Name.{Name}
 use Rattle.ams_tree.specs.declared.expression.Attribute.{Attribute, out-Attribute}
@@ -32,7 +32,7 @@ use Rattle.unit_meaning.specs.declared.draft.Seen.{Seen}
 use Rattle.unit_meaning.specs.Settings.{Setting, running, may_be, must_be, listed, finished}
 use Rattle.unit_meaning.specs.Waveforms.{target, mechanism, element, waveform, assignment}
 use Rattle.unit_meaning.specs.Bare.{inside_attribute, wrong_name, level_at, threshold_at, static_part, watched_attribute, watched_name, watched_signal, sensitivity, quantity_at, selector_at, break_element, break_elements}
-use Rattle.unit_meaning.specs.Cases.{one_choice, choices, seen_or, choosing_value}
+use Rattle.unit_meaning.specs.Cases.{one_choice, choices, seen_or}
 use Rattle.reading_laws.specs.Growing.{Grows}
 use Rattle.reading_laws.proofs.Growing.{grows_same, grows_on, grows_noted, grows_watched, grows_asked}
 use Rattle.reading_laws.proofs.Reading.{reading_adds_notes}
