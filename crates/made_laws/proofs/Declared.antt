@@ -1,5 +1,5 @@
 -- The declarations of a process.
-use Rattle.std.proofs.Common.{◌≡◌, ℕ, zero, suc, arith, inl, inr, Bool, true, false, List, [], ◌∷◌, ◌++◌, length, Option, Some, None, IfSome, refl, ap, sym, ◌∙◌, subst}
+use Rattle.std.proofs.Common.{◌≡◌, ℕ, zero, suc, arith, inl, Bool, true, false, List, [], ◌∷◌, ◌++◌, length, Option, Some, None, IfSome, refl, sym, ◌∙◌, subst}
 use Rattle.std.specs.List.{All, fold, slice_get}
 use Rattle.std.proofs.lemmas.List.Elements.{All-append}
 use Rattle.ams_token.specs.declared.token.Place.{Place}
@@ -29,7 +29,7 @@ use Rattle.elab_meaning.specs.Notes.{text_of}
 use Rattle.elab_meaning.specs.Parts.{closed}
 use Rattle.elab_meaning.specs.Subtypes.{valued}
 use Rattle.unit_meaning.specs.Settings.{Setting}
-use Rattle.unit_meaning.specs.Processes.{Declared, named, with_variable, variable, constant, faulty, each_of, declaring_each, process_declaration}
+use Rattle.unit_meaning.specs.Processes.{Declared, named, variable, constant, faulty, each_of, declaring_each, process_declaration}
 use Rattle.design_meaning.specs.Typed.{IsOfType}
 use Rattle.design_rules.specs.Types.{sizes_of, process_scope}
 use Rattle.design_rules.specs.Design.{IsVariable}

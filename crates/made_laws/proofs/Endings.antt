@@ -1,5 +1,5 @@
 -- Processes from their statements, and those of concurrent assertions and breaks.
-use Rattle.std.proofs.Common.{◌≡◌, ◌<◌, ◌≤◌, ◌+◌, ℕ, zero, suc, arith, ◌⊎◌, inl, inr, Bool, true, false, List, [], ◌∷◌, ◌++◌, length, Option, Some, None, IfSome, IsTrue, refl, ap, sym, ◌∙◌, subst}
+use Rattle.std.proofs.Common.{◌≡◌, ℕ, zero, suc, true, List, [], ◌∷◌, ◌++◌, length, Option, Some, None, refl, ap, sym, subst}
 use Rattle.std.specs.Prelude.{nat_eq}
 use Rattle.std.specs.List.{All, slice_get, list_any}
 use Rattle.std.proofs.lemmas.List.Elements.{All-nil}
@@ -33,14 +33,12 @@ use Rattle.unit_meaning.specs.declared.draft.Draft.{Draft}
 use Rattle.unit_meaning.specs.Settings.{Setting, condition, paired}
 use Rattle.unit_meaning.specs.Bare.{once, sensitivity, signals_in, signals_in_some, break_elements}
 use Rattle.unit_meaning.specs.Sequential.{text_or, assertion_parts}
-use Rattle.unit_meaning.specs.Processes.{last_place, ending, endless, process_of, asserting, concurrent_assertion, break_signals, breaking, concurrent_break}
+use Rattle.unit_meaning.specs.Processes.{last_place, ending, endless, asserting, concurrent_assertion, break_signals, breaking, concurrent_break}
 use Rattle.cycle_meaning.specs.Task.{Layer}
-use Rattle.cycle_meaning.specs.World.{drives}
-use Rattle.design_rules.specs.Ways.{layer_of, layer_at, LeadsTo}
-use Rattle.design_rules.specs.Types.{equation_scope, process_scope, IsVisible, IsExpression}
+use Rattle.design_rules.specs.Ways.{layer_at, LeadsTo}
+use Rattle.design_rules.specs.Types.{equation_scope, process_scope, IsExpression}
 use Rattle.design_rules.specs.Statements.{MayBe, IsSignalName, IsBreakElement, IsAllowed}
 use Rattle.design_rules.specs.Design.{IsVariable, IsProcess}
-use Rattle.reading_laws.specs.Growing.{Extends, Grows}
 use Rattle.typed_laws.specs.Fitting.{HasRoom}
 use Rattle.typed_laws.proofs.Typing.{room_before}
 use Rattle.part_laws.specs.Parts.{OnKept, KeepsPart}
@@ -55,7 +53,6 @@ use Rattle.draft_laws.proofs.Notes.{grows_closed}
 use Rattle.allowed_laws.specs.Simple.{HasTexts, SelectorsFit}
 use Rattle.allowed_laws.proofs.Simple.{once_all, literal_is_text, read_names, some_names, sensitivity_keeps, elements_keep}
 use Rattle.body_laws.specs.Bodies.{AreParameters}
-use Rattle.body_laws.proofs.Lists.{at_end}
 use Rattle.body_laws.proofs.Leaves.{opens_as, sealed_kept, IsPlain, plain_holds}
 
 -- ---- parts by what they are

@@ -1,5 +1,5 @@
 -- Processes that are read.
-use Rattle.std.proofs.Common.{◌≡◌, ◌⊎◌, inl, inr, ⊎_elim, ℕ, pos, Bool, true, false, List, [], ◌∷◌, ◌++◌, length, map, Option, Some, None, IfSome, refl, ap, sym, ◌∙◌, subst}
+use Rattle.std.proofs.Common.{◌≡◌, ⊎_elim, ℕ, Bool, true, false, List, [], map, Option, Some, None, IfSome, refl, sym, subst}
 use Rattle.std.specs.Prelude.{nat_eq, if◌then◌else◌}
 use Rattle.std.specs.List.{All, fold, list_any}
 use Rattle.std.proofs.lemmas.List.Elements.{All-append, All-nil}
@@ -15,29 +15,29 @@ use Rattle.flat_design.specs.declared.objects.Variable.{Variable}
 use Rattle.flat_design.specs.declared.objects.WaitPlace.{WaitPlace}
 use Rattle.name_scope.specs.declared.scope.Scope.{Scope}
 use Rattle.name_scope.specs.declared.thing.Thing.{Thing}
-use Rattle.name_scope.specs.Scopes.{lookup, inside}
+use Rattle.name_scope.specs.Scopes.{inside}
 use Rattle.elab_meaning.specs.declared.fault.Cause.TheVariants.{WrongType}
 use Rattle.elab_meaning.specs.declared.fault.Notes.{Notes}
 use Rattle.elab_meaning.specs.declared.part.Part.{Part}
 use Rattle.elab_meaning.specs.declared.part.Part.TheVariants.{Kept, Wrong, Hidden}
 use Rattle.elab_meaning.specs.Notes.{noted}
-use Rattle.elab_meaning.specs.Parts.{judged, both, closed}
+use Rattle.elab_meaning.specs.Parts.{both, closed}
 use Rattle.unit_meaning.specs.declared.draft.Draft.{Draft}
 use Rattle.unit_meaning.specs.Settings.{Setting}
 use Rattle.unit_meaning.specs.Bare.{sensitivity}
 use Rattle.unit_meaning.specs.Cases.{beside}
 use Rattle.unit_meaning.specs.Sequential.{statement_of, body}
 use Rattle.unit_meaning.specs.Processes.{Declared, no_draft, top_spot, process_declaration, last_place, ending, endless, listened, made_process, end_name, process}
-use Rattle.design_rules.specs.Types.{equation_scope, process_scope, IsDeclaredAs}
+use Rattle.design_rules.specs.Types.{equation_scope, process_scope}
 use Rattle.design_rules.specs.Statements.{IsSignalName}
 use Rattle.design_rules.specs.Design.{IsVariable, IsProcess}
 use Rattle.reading_laws.specs.Growing.{Extends, Grows}
 use Rattle.reading_laws.proofs.Growing.{grows_same, grows_on, grows_noted}
 use Rattle.typed_laws.specs.Fitting.{HasRoom}
 use Rattle.typed_laws.proofs.Typing.{room_before}
-use Rattle.part_laws.specs.Parts.{OnKept, KeepsPart}
+use Rattle.part_laws.specs.Parts.{OnKept}
 use Rattle.part_laws.proofs.Parts.{judged_kept}
-use Rattle.scope_laws.specs.Holds.{HasNoFaults, ScopeHolds}
+use Rattle.scope_laws.specs.Holds.{HasNoFaults}
 use Rattle.scope_laws.proofs.Names.{inside_same, inside_holds}
 use Rattle.scope_laws.proofs.Scopes.{scopes_hold}
 use Rattle.place_laws.specs.Places.{EachPlace, Stands, Assigns}
@@ -47,7 +47,7 @@ use Rattle.draft_laws.proofs.Notes.{grows_closed, grows_sensitivity}
 use Rattle.draft_laws.proofs.Drafts.{extends_same, extends_one, extends_on, all_grow}
 use Rattle.allowed_laws.specs.Simple.{IsSelectorAt}
 use Rattle.allowed_laws.proofs.Simple.{sensitivity_keeps}
-use Rattle.body_laws.specs.Bodies.{Keeps, StandsIn, ScopeStands, AreParameters, BodyIs}
+use Rattle.body_laws.specs.Bodies.{Keeps, StandsIn, ScopeStands, BodyIs}
 use Rattle.body_laws.proofs.Branches.{body_places}
 use Rattle.body_laws.proofs.Leaves.{sealed_kept}
 use Rattle.body_laws.proofs.Whole.{all_stand}
