@@ -11,12 +11,15 @@ use Rattle.name_scope.specs.declared.scope.Scope.{Scope}
 use Rattle.name_scope.specs.declared.thing.Thing.{Thing}
 use Rattle.name_scope.specs.declared.thing.Thing.TheVariants as thing
 use Rattle.name_scope.specs.Scopes.{visible, or_in, among, inside, with_name}
+use Rattle.elab_meaning.specs.declared.fault.Fault.{Fault}
+use Rattle.elab_meaning.specs.declared.fault.Notes.{Notes}
 use Rattle.unit_meaning.specs.declared.draft.Draft.{Draft}
 use Rattle.unit_meaning.specs.Settings.{Setting}
 use Rattle.unit_meaning.specs.Sequential.{with_driver}
 use Rattle.design_rules.specs.Types.{process_scope}
-use Rattle.reading_laws.specs.Growing.{Extends}
+use Rattle.reading_laws.specs.Growing.{Extends, Grows}
 use Rattle.typed_laws.proofs.Typing.{room_before}
+use Rattle.scope_laws.specs.Holds.{HasNoFaults}
 use Rattle.scope_laws.proofs.Names.{with_one, named_holds, inside_same, inside_holds}
 use Rattle.scope_laws.proofs.Scopes.{scopes_hold}
 use Rattle.draft_laws.specs.Drafts.{DraftGrows}
@@ -26,9 +29,18 @@ use Rattle.allowed_laws.proofs.Targets.{kind_at}
 use Rattle.body_laws.specs.Bodies.{StandsIn, Keeps, ScopeStands, AreParameters}
 use Rattle.body_laws.proofs.Lists.{any_end, any_more, any_split, front_at, none_at_end}
 
+-- no fault before where there is none behind
+nothing_before : (xs more : List Fault) → xs ++ more ≡ [] → xs ≡ []
+nothing_before [] more h = refl
+nothing_before (x ∷ xs) more h = absurd (cc)
+
+pub no_faults_before : (a b : Notes) → Grows a b → HasNoFaults b → HasNoFaults a
+no_faults_before a b g h = nothing_before a.faults g.faults.more (sym g.faults.whole ∙ h)
+
 pub stands_before : (objects : Objects) (p : Process) (a b : Draft) → DraftGrows a b → StandsIn objects p b → StandsIn objects p a
 stands_before objects p a b g h =
     record {
+      faults = no_faults_before a.notes b.notes g.notes h.faults;
       room = room_before (process_scope objects p) a.notes b.notes g.notes h.room;
       variables = extends_on Variable a.variables b.variables p.variables g.variables h.variables;
       drivers = extends_on ℕ a.drivers b.drivers p.drivers g.drivers h.drivers;

@@ -58,6 +58,7 @@ use Rattle.typed_laws.proofs.Typing.{room_before}
 use Rattle.part_laws.specs.Parts.{OnKept, KeepsPart}
 use Rattle.part_laws.proofs.Parts.{judged_kept, both_kept, where_kept, typed_keeps}
 use Rattle.part_laws.proofs.Process.{process_parts_fit}
+use Rattle.scope_laws.specs.Holds.{HasNoFaults}
 use Rattle.written_laws.specs.Written.{AreWritten, is_written, written_step, alternative_step as alternative_written, branch_step as branch_written, all_true, all_true_in, has_some}
 use Rattle.draft_laws.specs.Drafts.{DraftGrows, alternative_of, branch_of}
 use Rattle.draft_laws.proofs.Notes.{grows_closed}
@@ -268,15 +269,16 @@ module _ (objects : Objects) (p : Process) (w : Setting) (Also : Thing → Bool)
   abbrev HasChoices : ValueType → List Alternative → Type 0
   HasChoices k arms = AreChoices (sizes_of objects) k (flat_map (λ (a : Alternative). (out-Alternative a).choices) arms) (map (λ (a : Alternative). (out-Alternative a).others) arms)
 
-  case_kind : (scope : Scope) (spot : Spot) (i : ℕ) (all : List AlternativePart) (d : Draft) (k : Kind) (x : Typed) → Here spot.parameters scope → x.kind ≡ k
+  case_kind : (scope : Scope) (spot : Spot) (i : ℕ) (all : List AlternativePart) (d : Draft) (k : Kind) (y : Expr) (n : Notes) (x : Typed) → Here spot.parameters scope → (typed w scope running y n).1 ≡ Kept x → x.kind ≡ k
+      → HasNoFaults (CaseFound scope spot i all d (Some k)).0.notes
       → HasKind (process_scope objects p) x.expr k → All (IsVisible p.variables spot.parameters) (variables_named x.expr)
       → OnKept (AlternativesAre objects p spot.path spot.parameters i 0 d.drivers (CaseFound scope spot i all d (Some k)).0.drivers) (CaseFound scope spot i all d (Some k)).1.1
       → OnKept (StatementIs objects p spot i d.drivers (CaseFound scope spot i all d (Some k)).0.drivers) (judged (made_case w (CaseFound scope spot i all d (Some k)).1.0 x) (CaseFound scope spot i all d (Some k)).1.1)
-  case_kind scope spot i all d (Of k) x here is typed visible h =
+  case_kind scope spot i all d (Of k) y n x here found_is is none has_type visible h =
       let found = CaseFound scope spot i all d (Some (Of k)) in
       let Covers : Type 0 = covers w.enumerations (Of k) found.1.0 ≡ true in
       let fit : OnKept (λ (arms : List Alternative). Covers → HasChoices k arms) found.1.1 =
-      under (List Alternative) Covers (HasChoices k) found.1.1 (λ c. around.cases spot.parameters scope spot i k x.expr (alternatives_of all) d here typed c) in
+      under (List Alternative) Covers (HasChoices k) found.1.1 (λ c. around.cases spot.parameters scope spot i k y n x (alternatives_of all) d here found_is is none c) in
       let both_of : OnKept (λ (arms : List Alternative). AlternativesAre objects p spot.path spot.parameters i 0 d.drivers found.0.drivers arms × (Covers → HasChoices k arms)) found.1.1 =
       together (List Alternative) (AlternativesAre objects p spot.path spot.parameters i 0 d.drivers found.0.drivers) (λ (arms : List Alternative). Covers → HasChoices k arms)
       (λ (arms : List Alternative). AlternativesAre objects p spot.path spot.parameters i 0 d.drivers found.0.drivers arms × (Covers → HasChoices k arms)) (λ a l r. (l, r)) found.1.1 h fit in
@@ -288,23 +290,24 @@ module _ (objects : Objects) (p : Process) (w : Setting) (Also : Thing → Bool)
       case_is objects p spot i d.drivers found.0.drivers (statement.Case x.expr arms) (Statement-F.Case x.expr arms) arms (opens_as (statement.Case x.expr arms) (Statement-F.Case x.expr arms) (rolls-Case x.expr arms))
       (record {
         kind = k;
-        typed = record { typed = typed; visible = visible };
+        typed = record { typed = has_type; visible = visible };
         choices = g.1 (subst (λ (z : Kind). covers w.enumerations z found.1.0 ≡ true) is c);
       })
       tt tt tt refl (λ b. refl) (λ b lt. lt) (λ b lt. lt) g.0))
       found.1.1 both_of
-  case_kind scope spot i all d Vector x here is typed visible h = absurd typed
+  case_kind scope spot i all d Vector y n x here found_is is none has_type visible h = absurd has_type
 
-  case_made : (scope : Scope) (spot : Spot) (i : ℕ) (all : List AlternativePart) (d : Draft) (e : Part Typed) → Here spot.parameters scope
+  case_made : (scope : Scope) (spot : Spot) (i : ℕ) (all : List AlternativePart) (d : Draft) (y : Expr) (n : Notes) (e : Part Typed) → Here spot.parameters scope → (typed w scope running y n).1 ≡ e
+      → HasNoFaults (CaseFound scope spot i all d (kind_known e)).0.notes
       → OnKept (IsRead (process_scope objects p) (IsVisible p.variables spot.parameters)) e
       → OnKept (AlternativesAre objects p spot.path spot.parameters i 0 d.drivers (CaseFound scope spot i all d (kind_known e)).0.drivers) (CaseFound scope spot i all d (kind_known e)).1.1
       → OnKept (StatementIs objects p spot i d.drivers (CaseFound scope spot i all d (kind_known e)).0.drivers)
       (both (made_case w (CaseFound scope spot i all d (kind_known e)).1.0) e (CaseFound scope spot i all d (kind_known e)).1.1)
-  case_made scope spot i all d (Kept x) here h g = case_kind scope spot i all d x.kind x here refl h.typed h.visible g
-  case_made scope spot i all d Wrong here h g =
+  case_made scope spot i all d y n (Kept x) here is none h g = case_kind scope spot i all d x.kind y n x here is refl none h.typed h.visible g
+  case_made scope spot i all d y n Wrong here is none h g =
       never_kept Typed (List Alternative) Statement (StatementIs objects p spot i d.drivers (CaseFound scope spot i all d None).0.drivers) (made_case w (CaseFound scope spot i all d None).1.0)
       (CaseFound scope spot i all d None).1.1
-  case_made scope spot i all d Hidden here h g = tt
+  case_made scope spot i all d y n Hidden here is none h g = tt
 
   case_stands : (place : Place) (x : Expr) (all : List AlternativePart) → all_true (map (fold-Alternative Bool Bool Bool written_step alternative_written branch_written) (alternatives_of all)) ≡ true
       → SeqReadsStand (seq_step w (Seq-F.Case place x (case_readings all)))
@@ -318,7 +321,7 @@ module _ (objects : Objects) (p : Process) (w : Setting) (Also : Thing → Bool)
       typed_keeps (process_scope objects p) (IsVisible p.variables spot.parameters) w scope here.holds.fits running x d.notes in
       let goes : DraftGrows a found.0 = alternatives_of_grow w (alternatives_of all) scope spot i 0 (kind_known e.1) nothing_seen a in
       sealed_kept Statement (StatementIs objects p spot i d.drivers found.0.drivers) made
-      (case_made scope spot i all a e.1 here (read.right (stands_before objects p a found.0 goes inner).room)
+      (case_made scope spot i all a x d.notes e.1 here refl inner.faults (read.right (stands_before objects p a found.0 goes inner).room)
       (alternatives_stand all is scope spot i 0 (kind_known e.1) nothing_seen a here parameters inner))
 
   -- ---- loops

@@ -3,8 +3,8 @@ use Rattle.std.specs.Prelude.{◌≡◌, ◌⊎◌, ℕ, Bool, true, nat_eq, Lis
 use Rattle.std.specs.List.{slice_get, list_any, flat_map}
 use Rattle.ams_tree.specs.declared.sequential.Alternative.{Alternative as WrittenAlternative}
 use Rattle.ams_tree.specs.declared.sequential.Seq.{Seq}
+use Rattle.ams_tree.specs.declared.expression.Expr.{Expr}
 use Rattle.ams_value.specs.declared.value_type.ValueType.{ValueType}
-use Rattle.flat_expr.specs.declared.expr.FlatExpr.{FlatExpr}
 use Rattle.flat_expr.specs.declared.statement.Alternative.{Alternative, out-Alternative}
 use Rattle.flat_expr.specs.declared.statement.Statement.{Statement, out-Statement}
 use Rattle.flat_design.specs.declared.objects.Objects.{Objects}
@@ -18,16 +18,18 @@ use Rattle.name_scope.specs.declared.thing.Thing.TheVariants as thing
 use Rattle.name_scope.specs.Scopes.{lookup}
 use Rattle.unit_meaning.specs.declared.draft.Draft.{Draft}
 use Rattle.unit_meaning.specs.declared.draft.Spot.{Spot}
-use Rattle.unit_meaning.specs.Settings.{Setting}
+use Rattle.elab_meaning.specs.declared.fault.Notes.{Notes}
+use Rattle.elab_meaning.specs.declared.part.Part.TheVariants.{Kept}
+use Rattle.elab_meaning.specs.declared.typed.Typed.{Typed}
+use Rattle.unit_meaning.specs.Settings.{Setting, running, typed}
 use Rattle.unit_meaning.specs.Cases.{nothing_seen, covers}
 use Rattle.unit_meaning.specs.Sequential.{body, alternatives, statement_of}
-use Rattle.design_meaning.specs.Typed.{HasType}
 use Rattle.design_rules.specs.Types.{sizes_of, process_scope}
 use Rattle.design_rules.specs.Choices.{AreChoices}
 use Rattle.reading_laws.specs.Growing.{Extends}
 use Rattle.typed_laws.specs.Fitting.{HasRoom}
 use Rattle.part_laws.specs.Parts.{OnKept}
-use Rattle.scope_laws.specs.Holds.{ScopeHolds}
+use Rattle.scope_laws.specs.Holds.{HasNoFaults, ScopeHolds}
 use Rattle.place_laws.specs.Places.{EachPlace, HoldsHere, Stands, Assigns, AssignsHere}
 use Rattle.written_laws.specs.Written.{AreWritten}
 use Rattle.draft_laws.specs.Drafts.{alternative_of}
@@ -35,8 +37,9 @@ use Rattle.allowed_laws.specs.Simple.{HasTexts, SelectorsFit}
 
 -- ---- what stands round statements
 
--- a draft stands at the front of the process, and the design has room for what is noted
+-- a draft stands at the front of the process, no rule is broken, and the design has room for what is noted
 pub record StandsIn (objects : Objects) (p : Process) (d : Draft) : Type 0 where
+  pub faults : HasNoFaults d.notes
   pub room : HasRoom (process_scope objects p) d.notes
   pub variables : Extends Variable d.variables p.variables
   pub drivers : Extends ℕ d.drivers p.drivers
@@ -57,11 +60,12 @@ pub record ScopeStands (objects : Objects) (p : Process) (ps : List ℕ) (w : Se
 abbrev pub AreParameters : List Variable → List ℕ → Type 0
 AreParameters variables ps = (i : ℕ) → list_any (nat_eq i) ps ≡ true → (x : Variable) × (slice_get variables i ≡ Some x) × (x.is_parameter ≡ true)
 
--- the choices of a case that is read for an expression of this type are right, where they cover the type
+-- the choices of a case that is read for an expression of this type are right, where they cover the type and no rule is broken
 abbrev pub CasesFit : Objects → Process → Setting → (Thing → Bool) → Type 0
 CasesFit objects p w Also =
-    (ps : List ℕ) (scope : Scope) (spot : Spot) (i : ℕ) (k : ValueType) (e : FlatExpr) (all : List WrittenAlternative) (d : Draft)
-    → ScopeStands objects p ps w Also scope → HasType (process_scope objects p) e k
+    (ps : List ℕ) (scope : Scope) (spot : Spot) (i : ℕ) (k : ValueType) (x : Expr) (n : Notes) (e : Typed) (all : List WrittenAlternative) (d : Draft)
+    → ScopeStands objects p ps w Also scope → (typed w scope running x n).1 ≡ Kept e → e.kind ≡ Of k
+    → HasNoFaults (alternatives (map (alternative_of w) all) scope spot i 0 (Some (Of k)) nothing_seen d).0.notes
     → covers w.enumerations (Of k) (alternatives (map (alternative_of w) all) scope spot i 0 (Some (Of k)) nothing_seen d).1.0 ≡ true
     → OnKept
     (λ (arms : List Alternative).

@@ -132,7 +132,7 @@ module _ (objects : Objects) (w : Setting) (Also : Thing → Bool) (scope : Scop
         → Extends Variable read.0.variables q.variables → Extends ℕ read.0.drivers q.drivers → Extends WaitPlace read.0.waits q.waits → Facts q all
     facts q all is none room variables drivers waits =
         let room_q : HasRoom (process_scope objects q) read.0.notes = record { dots = room.dots; dot_limit = room.dot_limit; thresholds = room.thresholds; threshold_limit_kept = room.threshold_limit_kept } in
-        let stands : StandsIn objects q read.0 = record { room = room_q; variables = variables; drivers = drivers; waits = waits } in
+        let stands : StandsIn objects q read.0 = record { faults = none; room = room_q; variables = variables; drivers = drivers; waits = waits } in
         let none_names : HasNoFaults names.draft.notes = no_faults_before names.draft.notes read.0.notes read_grown.notes none in
         let sound : IsSound objects q w Also names =
         fold_right objects q w Also ProcessDeclaration (process_declaration w.texts) (declaration_grown objects q w Also at.values at.faulty) (declaration_right objects q w Also at.values at.faulty)
