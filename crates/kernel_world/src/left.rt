@@ -8,7 +8,7 @@ use crate::world::World;
 use ams_value::Val;
 use driver_set::DriverSet;
 use flat_design::Flat;
-use step_data::ThresholdList;
+use step_data::{BreakList, ThresholdList};
 
 impl<'a> World<'a> {
     /// The design.
@@ -46,5 +46,19 @@ impl<'a> World<'a> {
         ensures { result.now ≡ (world_of self.now).queues }
     {
         &self.drivers
+    }
+
+    /// The break elements that were executed since the cycle began.
+    pub fn break_list(&self) -> &BreakList
+        ensures { result.now ≡ (world_of self.now).elements }
+    {
+        &self.elements
+    }
+
+    /// Whether a break was executed since the cycle began.
+    pub fn has_broken(&self) -> bool
+        ensures { result ≡ (world_of self.now).broke }
+    {
+        self.broke
     }
 }
