@@ -7,8 +7,10 @@ use Rattle.std.proofs.lemmas.Option.{get_or_from_slice_get}
 use Rattle.flat_expr.specs.declared.expr.Unknown.{Unknown}
 use Rattle.flat_design.specs.declared.objects.Objects.{Objects}
 use Rattle.flat_design.specs.Order.{NumbersFindUnknowns, unknowns, unknown_at, unknown_count, number_of}
-use Rattle.trace_text.specs.Trace.{unknown_line}
-use Rattle.trace_lines.specs.Lines.{numbered_lines}
+use Rattle.flat_design.specs.declared.objects.Enumeration.{Enumeration}
+use Rattle.step_data.specs.declared.event.Event.{Event}
+use Rattle.trace_text.specs.Trace.{unknown_line, event_line}
+use Rattle.trace_lines.specs.Lines.{numbered_lines, event_lines}
 
 -- the unknown of a number, and those of the numbers behind it
 unknown_next : NumbersFindUnknowns → (objects : Objects) (n : ℕ) → n < unknown_count objects → drop n (unknowns objects) ≡ unknown_at objects n ∷ drop (n + 1) (unknowns objects)
@@ -34,3 +36,9 @@ pub numbered_ahead : {A : Type 0} (line : ℕ → A → List ℕ) (xs : List A) 
 numbered_ahead line xs i x h e =
     ap (numbered_lines line i) (drop_more xs i x h)
     ∙ ap (λ y. line i y ∷ numbered_lines line (i + 1) (drop (i + 1) xs)) (sym e)
+
+-- the line of the next event
+pub event_ahead : (enums : List Enumeration) (events : List Event) (i : ℕ) (e : Event) → i < length events → e ≡ get_or events i e →
+    event_lines enums (drop i events) ≡ event_line enums e ∷ event_lines enums (drop (i + 1) events)
+event_ahead enums events i e h is =
+    ap (event_lines enums) (drop_more events i e h) ∙ ap (λ x. event_line enums x ∷ event_lines enums (drop (i + 1) events)) (sym is)

@@ -20,26 +20,33 @@ events_text enums [] = refl
 events_text enums (e ∷ more) = ap (λ (l : List ℕ). event_line enums e ++ l) (events_text enums more)
 
 header_text : (objects : Objects) (top : List ℕ) (options : Options) → text_of_lines (header_lines objects top options) ≡ header objects top options
-unfolding header
+unfolding header options_line
 header_text objects top options =
+    let first = options_line top options in
     let us = numbered_lines (unknown_line objects) 0 (unknowns objects) in
     let ss = numbered_lines signal_line 0 objects.signals in
     let ts = numbered_lines threshold_line 0 objects.thresholds in
-    ap (λ (l : List ℕ). options_line top options ++ l) (
-      text_append us (ss ++ ts)
-      ∙ ap (λ (l : List ℕ). l ++ text_of_lines (ss ++ ts)) (numbered_text (unknown_line objects) 0 (unknowns objects))
-      ∙ ap (λ (l : List ℕ). numbered (unknown_line objects) 0 (unknowns objects) ++ l) (
-        text_append ss ts
-        ∙ ap (λ (l : List ℕ). l ++ text_of_lines ts) (numbered_text signal_line 0 objects.signals)
-        ∙ ap (λ (l : List ℕ). numbered signal_line 0 objects.signals ++ l) (numbered_text threshold_line 0 objects.thresholds)))
+    let u : List ℕ = numbered (unknown_line objects) 0 (unknowns objects) in
+    let n : List ℕ = numbered signal_line 0 objects.signals in
+    let v : List ℕ = numbered threshold_line 0 objects.thresholds in
+    let named : text_of_lines (ss ++ ts) ≡ n ++ v =
+    text_append ss ts ∙ ap (λ (l : List ℕ). l ++ text_of_lines ts) (numbered_text signal_line 0 objects.signals)
+    ∙ ap (λ (l : List ℕ). n ++ l) (numbered_text threshold_line 0 objects.thresholds) in
+    let all : text_of_lines (us ++ (ss ++ ts)) ≡ u ++ (n ++ v) =
+    text_append us (ss ++ ts) ∙ ap (λ (l : List ℕ). l ++ text_of_lines (ss ++ ts)) (numbered_text (unknown_line objects) 0 (unknowns objects))
+    ∙ ap (λ (l : List ℕ). u ++ l) named in
+    ap (λ (l : List ℕ). first ++ l) all ∙ sym (append_assoc first u (n ++ v)) ∙ sym (append_assoc (first ++ u) n v)
 
 pub lines_are_the_trace : LinesAreTheTrace
 unfolding trace_text
 lines_are_the_trace objects top options events last =
     let es = event_lines objects.enumerations events in
+    let head : List ℕ = header objects top options in
+    let e : List ℕ = flat_map (event_line objects.enumerations) events in
+    let works : text_of_lines (es ++ end_line last ∷ []) ≡ e ++ end_line last =
+    text_append es (end_line last ∷ []) ∙ ap (λ (l : List ℕ). l ++ text_of_lines (end_line last ∷ [])) (events_text objects.enumerations events)
+    ∙ ap (λ (l : List ℕ). e ++ l) (append-nil (end_line last)) in
     text_append (header_lines objects top options) (es ++ end_line last ∷ [])
     ∙ ap (λ (l : List ℕ). l ++ text_of_lines (es ++ end_line last ∷ [])) (header_text objects top options)
-    ∙ ap (λ (l : List ℕ). header objects top options ++ l) (
-      text_append es (end_line last ∷ [])
-      ∙ ap (λ (l : List ℕ). l ++ text_of_lines (end_line last ∷ [])) (events_text objects.enumerations events)
-      ∙ ap (λ (l : List ℕ). flat_map (event_line objects.enumerations) events ++ l) (append-nil (end_line last)))
+    ∙ ap (λ (l : List ℕ). head ++ l) works
+    ∙ sym (append_assoc head e (end_line last))

@@ -15,7 +15,7 @@ numbered_lines line i [] = []
 numbered_lines line i (x ∷ more) = line i x ∷ numbered_lines line (i + 1) more
 
 -- the version, the top and the options
-abbrev pub options_line : List ℕ → Options → List ℕ
+unfoldable pub options_line : List ℕ → Options → List ℕ
 options_line top options = line_of (codes "A") (codes "2" ∷ top ∷ option_fields options)
 
 -- the signals and the thresholds by number

@@ -12,6 +12,7 @@ use step_data::Options;
 use trace_sink::{TraceFault, put_line};
 
 /// Writes the first line.
+#[tactic(auto, unfolding(crate::specs::Lines::options_line))]
 fn put_options<K: Sink>(
     top: &str,
     options: &Options,
