@@ -1,12 +1,12 @@
 -- The unknowns, one by one.
-use Rattle.std.proofs.Common.{◌≡◌, ℕ, ◌+◌, ◌<◌, List, ◌∷◌, ◌++◌, drop, length, sym, ap, ◌∙◌, arith}
+use Rattle.std.proofs.Common.{◌≡◌, ℕ, ◌+◌, ◌<◌, List, ◌∷◌, ◌++◌, drop, length, sym, ap, ◌∙◌}
 use Rattle.std.specs.Prelude.{Some}
 use Rattle.std.specs.List.{slice_get}
 use Rattle.std.proofs.lemmas.List.{drop_more, append_assoc}
 use Rattle.std.proofs.lemmas.Option.{get_or_from_slice_get}
 use Rattle.flat_expr.specs.declared.expr.Unknown.{Unknown}
 use Rattle.flat_design.specs.declared.objects.Objects.{Objects}
-use Rattle.flat_design.specs.Order.{NumbersFindUnknowns, unknowns, unknown_at, unknown_count, number_of}
+use Rattle.flat_design.specs.Order.{NumbersFindUnknowns, unknowns, unknown_at, unknown_count}
 use Rattle.trace_text.specs.Trace.{numbered, unknown_line}
 
 -- the unknown of a number, and those of the numbers behind it

@@ -1,5 +1,5 @@
 -- The texts of values that have room in an array.
-use Rattle.std.specs.Prelude.{ℕ, ◌≤◌, ⊤, List, length}
+use Rattle.std.specs.Prelude.{◌≤◌, ⊤, List, length}
 use Rattle.std.specs.List.{slice_get}
 use Rattle.ams_value.specs.declared.val.Val.{Val}
 use Rattle.ams_value.specs.declared.val.Val.TheVariants as val

@@ -17,7 +17,7 @@ use step_data::Options;
 /// The letter of the first line, and the version of the format.
 const FIRST_FIELDS: &[u8] = b"A 2";
 
-fn push_options(out: &mut Vec<u8>, top: &str, options: &Options) -> Result<(), AllocError>
+pub fn push_options(out: &mut Vec<u8>, top: &str, options: &Options) -> Result<(), AllocError>
     ensures ok { OnOk result (out.new.items ≡ out.old.items ++ line_of (codes "A") (codes "2" ∷ top.now ∷ option_fields options.now)) }
     ensures err { OnErr result (IsFront out.old.items out.new.items) }
 {
@@ -81,7 +81,7 @@ fn push_name_line(
     push_line_feed(out)
 }
 
-fn push_unknown(
+pub fn push_unknown(
     out: &mut Vec<u8>,
     flat: &Flat,
     number: u64,
@@ -118,7 +118,11 @@ fn push_signals(out: &mut Vec<u8>, signals: &[Signal]) -> Result<(), AllocError>
     Ok(())
 }
 
-fn push_threshold(out: &mut Vec<u8>, number: u64, threshold: Threshold) -> Result<(), AllocError>
+pub fn push_threshold(
+    out: &mut Vec<u8>,
+    number: u64,
+    threshold: Threshold,
+) -> Result<(), AllocError>
     ensures ok { OnOk result (out.new.items ≡ out.old.items ++ threshold_line number threshold) }
     ensures err { OnErr result (IsFront out.old.items out.new.items) }
 {

@@ -5,10 +5,12 @@ mod append;
 mod end;
 mod event;
 mod head;
+mod head_line;
 mod text;
 mod value;
 
 pub use end::last;
 pub use event::line;
 pub use head::header;
+pub use head_line::{options_line, signal_line, threshold_line, unknown_line};
 pub use text::{VALUE_ROOM, value_text};

@@ -1,4 +1,4 @@
-use Rattle.std.proofs.Common.{◌≡◌, ◌-◌, ◌∙◌, ap, nat_eq, arith}
+use Rattle.std.proofs.Common.{◌-◌, ◌∙◌, ap, arith}
 use Rattle.trace_text.specs.Trace.{bit_text}
 use Rattle.commit_trace.proofs.BitLemmas.{bits_put}
 use Rattle.commit_trace.proofs.text.+put_bits.Goals as goal
