@@ -7,12 +7,10 @@ use Rattle.step_data.specs.declared.outcome.Refusal.{Refusal}
 use Rattle.step_model.specs.System.{ProcessState, Digital, CycleOutcome}
 use Rattle.cycle_meaning.specs.World.{World, Context}
 use Rattle.cycle_meaning.specs.Cycles.{Ran_of, all_ran, one_refused, context_at, world_of, resumes, run_all, start_all, ended, after_resumption, cycle}
-use Rattle.statement_lists.specs.declared.fault.ListFault.{ListFault}
-use Rattle.statement_lists.specs.declared.fault.ListFault.TheVariants as fault
 use Rattle.proc_exec.specs.Running.{IsFront}
-use Rattle.process_runs.specs.Ran.{events_in, AllEnd}
+use Rattle.run_laws.specs.Changes.{world_behind}
 use Rattle.run_laws.specs.Events.{behind, ran_behind, RunsAlike, StartsAlike}
-use Rattle.cycle_parts.specs.Added.{RunsAddEvents, StartsAddEvents, CyclesAddEvents, AddsUnlessNoMemory, EndsAddEvents}
+use Rattle.cycle_parts.specs.Added.{RunsAddEvents, StartsAddEvents, CyclesAddEvents}
 
 nothing_behind : {A : Type 0} (xs : List A) → xs ++ [] ≡ xs
 nothing_behind [] = refl
@@ -22,9 +20,9 @@ front_all : (events : List Event) → IsFront events events
 front_all events = ([], sym (nothing_behind events))
 
 -- runs behind earlier events have these at the front
-in_front : (events : List Event) (r q : Ran_of) → r ≡ ran_behind events q → IsFront events (events_in r)
-in_front events r (all_ran v states) e = (v.events, ap events_in e)
-in_front events r (one_refused v f) e = (v.events, ap events_in e)
+in_front : (events : List Event) (r q : Ran_of) → r ≡ ran_behind events q → IsFront events (world_behind r).events
+in_front events r (all_ran v states) e = (v.events, ap (λ q. (world_behind q).events) e)
+in_front events r (one_refused v f) e = (v.events, ap (λ q. (world_behind q).events) e)
 
 alone : World → World
 alone w = record w { events = [] }
@@ -41,7 +39,7 @@ pub starts_add : StartsAlike → StartsAddEvents
 starts_add law at k ps w =
     in_front w.events (start_all at k ps w) (start_all at k ps (alone w)) (ap (start_all at k ps) (is_behind w) ∙ law at k ps (alone w) w.events)
 
-ended_events : (d : Digital) (t : ℕ) (timed : Bool) (r : Ran_of) → (ended d t timed r).events ≡ events_in r
+ended_events : (d : Digital) (t : ℕ) (timed : Bool) (r : Ran_of) → (ended d t timed r).events ≡ (world_behind r).events
 ended_events d t timed (all_ran w states) = refl
 ended_events d t timed (one_refused w r) = refl
 
@@ -56,8 +54,3 @@ pub cycles_add : RunsAddEvents → CyclesAddEvents
 unfolding cycle
 cycles_add law objects d t n x z =
     by_resumed law objects d t n x (d.timed || z) (world_of objects d t n x z) (resumes (context_at objects t n x) (world_of objects d t n x z) 0 objects.processes d.processes)
-
-pub ends_add : EndsAddEvents
-ends_add e before w states (Ok u) front ends = subst (λ (r : Ran_of). IsFront before.events (events_in r)) ends front
-ends_add e before w states (Err (fault.Refused r)) front ends = subst (λ (q : Ran_of). IsFront before.events (events_in q)) ends front
-ends_add e before w states (Err fault.Memory) front ends = cc

@@ -7,15 +7,14 @@ use Rattle.step_model.specs.System.{ProcessState, Digital}
 use Rattle.design_meaning.specs.Readings.{Seen}
 use Rattle.cycle_meaning.specs.World.{World, Local}
 use Rattle.cycle_meaning.specs.Cycles.{Ran_of, all_ran, run_all, digital_of, first_digital, ended}
-use Rattle.kernel_world.specs.Reading.{domain_value}
 use Rattle.run_laws.specs.Changes.{world_behind, RunsChange}
-use Rattle.cycle_parts.specs.Left.{with_events, EventsAreGivenBack, DomainStays, IsStateLeft}
+use Rattle.cycle_parts.specs.Left.{value_of_turn, with_events, EventsAreGivenBack, DomainStays, IsStateLeft}
 
 pub given_back : EventsAreGivenBack
 given_back a b z e f eb ef ez = ez ∙ ap (λ (l : Local). with_events l f) eb ∙ ap (with_events a) ef
 
 -- DOMAIN has one of two values
-same_domain : (a b : Bool) → domain_value a ≡ domain_value b → a ≡ b
+same_domain : (a b : Bool) → value_of_turn a ≡ value_of_turn b → a ≡ b
 same_domain true true e = refl
 same_domain true false e = absurd (cc)
 same_domain false true e = absurd (cc)

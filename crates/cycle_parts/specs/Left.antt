@@ -1,5 +1,5 @@
 -- What the runs of a cycle leave.
-use Rattle.std.specs.Prelude.{◌≡◌, ℕ, Bool, List}
+use Rattle.std.specs.Prelude.{◌≡◌, ℕ, Bool, List, if◌then◌else◌}
 use Rattle.flat_design.specs.declared.objects.Objects.{Objects}
 use Rattle.flat_design.specs.declared.objects.Process.{Process}
 use Rattle.step_data.specs.declared.event.Event.{Event}
@@ -7,7 +7,8 @@ use Rattle.step_data.specs.declared.outcome.Ran.TheVariants.{Done}
 use Rattle.step_model.specs.System.{ProcessState, Digital}
 use Rattle.cycle_meaning.specs.World.{World, Context, Local}
 use Rattle.cycle_meaning.specs.Cycles.{Ran_of, all_ran, run_all, digital_of, first_digital, ended}
-use Rattle.kernel_world.specs.Reading.{domain_value}
+use Rattle.ams_value.specs.declared.val.Val.{Val}
+use Rattle.design_meaning.specs.Reading.{quiescent_domain, time_domain}
 
 -- ---- events that are lent out
 
@@ -21,11 +22,15 @@ EventsAreGivenBack =
 
 -- ---- DOMAIN
 
+-- its value, of which only the turn is kept (IEEE 1076.1, predefined signal DOMAIN)
+abbrev pub value_of_turn : Bool → Val
+value_of_turn timed = if timed then time_domain else quiescent_domain
+
 -- whatever is kept of DOMAIN's value before and behind the runs, is the same
 abbrev pub DomainStays : Type 0
 DomainStays =
     (at : ℕ → Context) (k : ℕ) (ps : List Process) (states after : List ProcessState) (resumed : List Bool) (w left : World) (before behind event later : Bool)
-    → run_all at k ps states resumed w ≡ all_ran left after → w.domain ≡ record { value = domain_value before; event = event } → left.domain ≡ record { value = domain_value behind; event = later } → behind ≡ before
+    → run_all at k ps states resumed w ≡ all_ran left after → w.domain ≡ record { value = value_of_turn before; event = event } → left.domain ≡ record { value = value_of_turn behind; event = later } → behind ≡ before
 
 -- ---- the state
 

@@ -2,39 +2,28 @@
 //! proved and do nothing when they run.
 #![tactic(auto)]
 
-ghost use Rattle.cycle_parts.specs.Added.{
-  RunsAddEvents,
-  StartsAddEvents,
-  CyclesAddEvents,
-  EndsAddEvents,
-};
+ghost use Rattle.cycle_parts.specs.Added.{RunsAddEvents, StartsAddEvents, CyclesAddEvents};
 ghost use Rattle.cycle_parts.specs.Left.{EventsAreGivenBack, DomainStays, IsStateLeft};
+ghost use Rattle.run_laws.specs.Changes.{RunsChange};
+ghost use Rattle.run_laws.specs.Events.{RunsAlike, StartsAlike};
 
-use run_changes::runs_change_drivers_and_breaks_alone;
-use run_events::runs_do_not_read_events;
-
-/// The events before runs are at the front of those behind them, whether all ran or one was refused. So are the events at the beginning of a
-/// cycle at the front of the cycle's, however it ends.
+/// As runs don't read the events before them, these are at the front of those behind the runs, whether all ran or one was refused. So are
+/// the events at the beginning of a cycle at the front of the cycle's, however it ends.
 pub fn events_are_only_added()
-    ensures runs { RunsAddEvents }
-    ensures starts { StartsAddEvents }
-    ensures cycles { CyclesAddEvents }
-    ensures ends { EndsAddEvents }
-{
-    runs_do_not_read_events();
-}
+    ensures runs { RunsAlike → RunsAddEvents }
+    ensures starts { StartsAlike → StartsAddEvents }
+    ensures cycles { RunsAlike → CyclesAddEvents }
+{}
 
 /// Events that were lent out and come back leave the process and its world as they were.
 pub fn events_are_given_back()
     ensures { EventsAreGivenBack }
 {}
 
-/// DOMAIN is behind the runs what it was before them.
+/// As runs change drivers and breaks alone, DOMAIN is behind them what it was before.
 pub fn domain_stays()
-    ensures { DomainStays }
-{
-    runs_change_drivers_and_breaks_alone();
-}
+    ensures { RunsChange → DomainStays }
+{}
 
 /// The state that is known from objects, time, DOMAIN's turn, world and processes is that of a cycle whose runs left these.
 pub fn state_is_left()

@@ -52,6 +52,7 @@ not_due now (Some u) otherwise e = by (nat_eq now u) (nat_eq u now) (same now u)
   where
     same : (a b : ℕ) → nat_eq a b ≡ nat_eq b a
     same a b = grind (arith, nat_tests)
+
     by : (b c : Bool) → b ≡ c → is_met_by b otherwise ≡ Ok false → (if c then None else Some u) ≡ Some u
     by true true h f = absurd (cc)
     by true false h f = absurd (cc)
@@ -67,9 +68,11 @@ first_entered : (b : Bool) (others : World → Ran_of) (here : Context) (now : �
 first_entered true others here now w left begun p s x xs moment met ran =
     (refl, stop_parts others p (run statement_budget here (local_of w p s) (left_behind p s)) left x xs ran)
 first_entered false others here now w left begun p s x xs moment met ran =
-    let parts = with_parts s x (others w) left xs ran in
-    (not_due now s.timeout _ (subst (λ (t : ℕ). is_met_by (is_timed_out t s.timeout) (condition_met (list_any (λ i. (seen_of (readings_at here (local_of begun p s)) i).event) (waiting_of p s).0) (holds here (local_of begun p s) (waiting_of p s).1)) ≡ Ok false) moment met)
-    ∙ ap (λ (y : ProcessState). y.timeout) parts.0, (w, parts.1))
+    let parts = with_parts s x (others w) left xs ran in (
+      not_due now s.timeout _ (subst (λ (t : ℕ). is_met_by (is_timed_out t s.timeout) (condition_met (list_any (λ i. (seen_of (readings_at here (local_of begun p s)) i).event) (waiting_of p s).0) (holds here (local_of begun p s) (waiting_of p s).1)) ≡ Ok false) moment met)
+          ∙ ap (λ (y : ProcessState). y.timeout) parts.0,
+      (w, parts.1),
+    )
 
 -- there is a state behind it
 first_some : (b : Bool) (others : World → Ran_of) (here : Context) (w left : World) (p : Process) (s : ProcessState) → by_resumption b others here w p s ≡ all_ran left [] → ⊥

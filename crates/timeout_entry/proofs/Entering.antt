@@ -15,7 +15,7 @@ first_entered times ks bs k = entered times (timeouts_kept (take k ks)) (take k 
 
 pub entered_more : (times : List (Option ℕ)) (ks : List Kept) (bs : List Bool) (k : ℕ) (z : Kept) (b : Bool) → k < length ks → length ks ≡ length times → length bs ≡ length times → z ≡ get_or ks k z → b ≡ get_or bs k b
     → entered times (timeouts_kept (take (k + 1) ks)) (take (k + 1) bs)
-      ≡ (if b then set (entered times (timeouts_kept (take k ks)) (take k bs)) k z.timeout else entered times (timeouts_kept (take k ks)) (take k bs))
+    ≡ (if b then set (entered times (timeouts_kept (take k ks)) (take k bs)) k z.timeout else entered times (timeouts_kept (take k ks)) (take k bs))
 entered_more [] ks bs k z b h lk lb ez eb = absurd (omega arith)
 entered_more (t ∷ times) [] bs k z b h lk lb ez eb = absurd (omega arith)
 entered_more (t ∷ times) (x ∷ ks) [] k z b h lk lb ez eb = absurd (omega arith)
