@@ -1,11 +1,10 @@
 -- Events are only added to those before.
 use Rattle.std.proofs.Common.{◌≡◌, refl, ap, sym, ◌∙◌, subst, ℕ, Bool, ◌||◌, ℤ, List, [], ◌∷◌, ◌++◌, Result, Ok, Err}
 use Rattle.flat_design.specs.declared.objects.Objects.{Objects}
-use Rattle.flat_design.specs.declared.objects.Process.{Process}
 use Rattle.step_data.specs.declared.event.Event.{Event}
 use Rattle.step_data.specs.declared.outcome.Refusal.{Refusal}
-use Rattle.step_model.specs.System.{ProcessState, Digital, CycleOutcome}
-use Rattle.cycle_meaning.specs.World.{World, Context}
+use Rattle.step_model.specs.System.{Digital}
+use Rattle.cycle_meaning.specs.World.{World}
 use Rattle.cycle_meaning.specs.Cycles.{Ran_of, all_ran, one_refused, context_at, world_of, resumes, run_all, start_all, ended, after_resumption, cycle}
 use Rattle.proc_exec.specs.Running.{IsFront}
 use Rattle.run_laws.specs.Changes.{world_behind}

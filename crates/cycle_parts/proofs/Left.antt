@@ -1,12 +1,10 @@
 -- What the runs of a cycle leave.
 use Rattle.std.proofs.Common.{◌≡◌, refl, ap, sym, ◌∙◌, ℕ, Bool, true, false, List}
 use Rattle.flat_design.specs.declared.objects.Objects.{Objects}
-use Rattle.step_data.specs.declared.event.Event.{Event}
-use Rattle.step_data.specs.declared.outcome.Ran.{Ran}
 use Rattle.step_model.specs.System.{ProcessState, Digital}
 use Rattle.design_meaning.specs.Readings.{Seen}
 use Rattle.cycle_meaning.specs.World.{World, Local}
-use Rattle.cycle_meaning.specs.Cycles.{Ran_of, all_ran, run_all, digital_of, first_digital, ended}
+use Rattle.cycle_meaning.specs.Cycles.{Ran_of, digital_of, first_digital, ended}
 use Rattle.run_laws.specs.Changes.{world_behind, RunsChange}
 use Rattle.cycle_parts.specs.Left.{value_of_turn, with_events, EventsAreGivenBack, DomainStays, IsStateLeft}
 

@@ -1,10 +1,9 @@
 -- The timeouts that are kept are those of the states.
-use Rattle.std.proofs.Common.{◌≡◌, refl, ap, ◌∙◌, subst, ℕ, ◌+◌, Bool, List, [], ◌∷◌, length, map, Option, arith}
-use Rattle.flat_design.specs.declared.objects.Process.{Process}
+use Rattle.std.proofs.Common.{refl, ap, ◌∙◌, ℕ, List, [], ◌∷◌, map, Option, arith}
 use Rattle.next_cycle.specs.Next.{timeouts_of}
-use Rattle.process_runs.specs.Kept.{Kept, state_kept, states_kept}
+use Rattle.process_runs.specs.Kept.{states_kept}
 use Rattle.cycle_timeouts.specs.Entered.{unless_due, entered, TimeoutsAreEntered}
-use Rattle.timeout_entry.specs.Kept.{timeouts_kept, StartsAreEntered, RunsAreEntered}
+use Rattle.timeout_entry.specs.Kept.{StartsAreEntered, RunsAreEntered}
 
 pub starts_entered : StartsAreEntered
 starts_entered [] [] same = refl

@@ -1,5 +1,5 @@
 //! Timeouts are entered.
-ghost use Rattle.std.specs.Prelude.{◌≡◌, ◌<◌, ◌^◌, length, if◌then◌else◌, slice_set, OnOk};
+ghost use Rattle.std.specs.Prelude.{◌≡◌, ◌<◌, ◌^◌, false, length, if◌then◌else◌, slice_index_or, slice_set, None, OnOk};
 ghost use Rattle.cycle_timeouts.specs.Entered.{entered};
 ghost use Rattle.timeout_entry.specs.Kept.{timeouts_kept};
 
@@ -8,13 +8,35 @@ use fix_core::Tick;
 use process_runs::KeptProcess;
 use std::alloc::AllocError;
 
+/// The timeout that is kept of the process with a number.
+#[tactic(auto, using(crate::proofs::Entering::kept_at))]
+fn timeout_at(kept: &[KeptProcess], number: usize) -> Option<Tick>
+    requires { number < length kept.now }
+    ensures { result ≡ slice_index_or (timeouts_kept kept.now) number None }
+{
+    kept[number].timeout()
+}
+
+/// Whether the process with a number ran.
+fn flag_at(ran: &[bool], number: usize) -> bool
+    requires { number < length ran.now }
+    ensures { result ≡ slice_index_or ran.now number false }
+{
+    ran[number]
+}
+
 /// Enters the timeout of a process, if it ran.
-fn enter(timeouts: &mut Agenda, number: u32, at: Option<Tick>, ran: bool) -> Result<(), AllocError>
+fn enter(
+    timeouts: &mut Agenda,
+    number: u32,
+    at: Option<Tick>,
+    entering: bool,
+) -> Result<(), AllocError>
     requires { number < length timeouts.old }
-    ensures set { OnOk result (timeouts.new ≡ (if ran then slice_set timeouts.old number at else timeouts.old)) }
+    ensures set { OnOk result (timeouts.new ≡ (if entering then slice_set timeouts.old number at else timeouts.old)) }
     ensures count { length timeouts.new ≡ length timeouts.old }
 {
-    if ran {
+    if entering {
         return timeouts.set(number, at);
     }
     Ok(())
@@ -34,7 +56,9 @@ pub fn enter_timeouts(
     ensures count { length timeouts.new ≡ length timeouts.old }
 {
     for number in 0..kept.len() {
-        enter(timeouts, number as u32, kept[number].timeout(), ran[number])?;
+        let at = timeout_at(kept, number);
+        let entering = flag_at(ran, number);
+        enter(timeouts, number as u32, at, entering)?;
     }
     Ok(())
 }
@@ -47,7 +71,8 @@ pub fn enter_all(timeouts: &mut Agenda, kept: &[KeptProcess]) -> Result<(), Allo
     ensures count { length timeouts.new ≡ length timeouts.old }
 {
     for number in 0..kept.len() {
-        enter(timeouts, number as u32, kept[number].timeout(), true)?;
+        let at = timeout_at(kept, number);
+        enter(timeouts, number as u32, at, true)?;
     }
     Ok(())
 }

@@ -5,6 +5,6 @@ use Rattle.timeout_entry.proofs.entry.enter_timeouts.Given as goal
 
 abbrev pub invariant-loop-number : goal.invariant-loop-number
 invariant-loop-number l = record {
-  same : l.timeouts ≡ entered l.initial.timeouts (timeouts_kept (take l.number l.kept)) (take l.number l.ran);
+  same : l.timeouts ≡ entered l.initial.timeouts (take l.number (timeouts_kept l.kept)) (take l.number l.ran);
   count : length l.timeouts ≡ length l.initial.timeouts;
 }
