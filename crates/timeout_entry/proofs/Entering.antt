@@ -57,11 +57,11 @@ take_whole [] (suc n) e = refl
 take_whole (x ∷ xs) zero e = absurd (omega arith)
 take_whole (x ∷ xs) (suc n) e = ap (λ l. x ∷ l) (take_whole xs n (omega arith))
 
-pub entered_whole : (first now : List (Option ℕ)) (ks : List Kept) (bs : List Bool) → length ks ≡ length first → length bs ≡ length first
-    → now ≡ entered first (take (length ks) (timeouts_kept ks)) (take (length ks) bs) → now ≡ entered first (timeouts_kept ks) bs
-entered_whole first now ks bs lk lb was =
-    was ∙ ap (λ (l : List (Option ℕ)). entered first l (take (length ks) bs)) (take_whole (timeouts_kept ks) (length ks) (sym (how_many ks)))
-    ∙ ap (entered first (timeouts_kept ks)) (take_whole bs (length ks) (lk ∙ sym lb))
+pub entered_whole : (first now : List (Option ℕ)) (ks : List Kept) (bs : List Bool) (n : ℕ) → n ≡ length ks → length ks ≡ length first → length bs ≡ length first
+    → now ≡ entered first (take n (timeouts_kept ks)) (take n bs) → now ≡ entered first (timeouts_kept ks) bs
+entered_whole first now ks bs n e lk lb was =
+    was ∙ ap (λ (l : List (Option ℕ)). entered first l (take n bs)) (take_whole (timeouts_kept ks) n (e ∙ sym (how_many ks)))
+    ∙ ap (entered first (timeouts_kept ks)) (take_whole bs n (e ∙ lk ∙ sym lb))
 
 -- ---- all
 
@@ -83,5 +83,5 @@ none_left (x ∷ xs) [] n e f = absurd (omega arith)
 none_left (x ∷ xs) (y ∷ ys) zero e f = absurd (omega arith)
 none_left (x ∷ xs) (y ∷ ys) (suc n) e f = ap (λ l. x ∷ l) (none_left xs ys n (omega arith) (omega arith))
 
-pub all_whole : (first now : List (Option ℕ)) (ks : List Kept) → length ks ≡ length first → now ≡ take (length ks) (timeouts_kept ks) ++ drop (length ks) first → now ≡ timeouts_kept ks
-all_whole first now ks lk was = was ∙ none_left (timeouts_kept ks) first (length ks) (sym (how_many ks)) lk
+pub all_whole : (first now : List (Option ℕ)) (ks : List Kept) (n : ℕ) → n ≡ length ks → length ks ≡ length first → now ≡ take n (timeouts_kept ks) ++ drop n first → now ≡ timeouts_kept ks
+all_whole first now ks n e lk was = was ∙ none_left (timeouts_kept ks) first n (e ∙ sym (how_many ks)) (e ∙ lk)
