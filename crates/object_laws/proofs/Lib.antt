@@ -1,0 +1,4 @@
+pub mod Adding
+pub mod Declarations
+pub mod Interface
+pub mod Ports
