@@ -1,7 +1,7 @@
 -- Enumeration types of expressions, step by step.
-use Rattle.std.proofs.Common.{◌≡◌, ◌+◌, ◌*◌, ◌^◌, ℕ, ℤ, pos, length, Bool, true, false, if◌then◌else◌, List, [], ◌∷◌, Option, Some, None, IfSome, Result, Ok, Err, refl, arith}
+use Rattle.std.proofs.Common.{◌+◌, ◌*◌, ◌^◌, ℕ, ℤ, pos, length, Bool, true, false, if◌then◌else◌, List, [], ◌∷◌, Option, Some, None, IfSome, Result, Ok, Err}
 use Rattle.std.specs.Prelude.{◌&&◌, ◌+ℤ◌, nat_eq, nat_le, nat_lt}
-use Rattle.std.specs.List.{All, fold}
+use Rattle.std.specs.List.{fold}
 use Rattle.fix_core.specs.Fixed.{decimal_of}
 use Rattle.fix_core.specs.Units.{most_ticks}
 use Rattle.fix_core.specs.declared.NumFault.{NumFault}
@@ -11,7 +11,6 @@ use Rattle.ams_tree.specs.declared.expression.NumberValue.{NumberValue}
 use Rattle.ams_tree.specs.declared.expression.NumberValue.TheVariants as written
 use Rattle.ams_tree.specs.declared.expression.LiteralValue.{LiteralValue}
 use Rattle.ams_tree.specs.declared.expression.LiteralValue.TheVariants as content
-use Rattle.ams_tree.specs.declared.expression.Expr.{Expr}
 use Rattle.ams_value.specs.declared.val.Val.{Val}
 use Rattle.ams_value.specs.declared.val.Val.TheVariants as val
 use Rattle.ams_value.specs.declared.op.UnaryOperator.{UnaryOperator}

@@ -1,5 +1,5 @@
 -- Enumeration types of expressions, by those of names.
-use Rattle.std.specs.Prelude.{ℕ, List, Option, IfSome}
+use Rattle.std.specs.Prelude.{ℕ, List, IfSome}
 use Rattle.ams_tree.specs.declared.expression.Expr.{Expr}
 use Rattle.ams_value.specs.declared.value_type.ValueType.TheVariants.{Enumeration as EnumerationType}
 use Rattle.ams_value.specs.Types.{type_of}
