@@ -49,7 +49,7 @@ nature_part_before name reference (Kept fine) b h = with_nature_before name refe
 nature_part_before name reference Wrong b h = declared_before thing.Faulty name b (declared_before thing.Faulty reference (faulty name b) h)
 nature_part_before name reference Hidden b h = declared_before thing.Faulty name b (declared_before thing.Faulty reference (faulty name b) h)
 
-nature_before : (place : Place) (name across through reference : Name) (b : Book) → HasNoFaults (nature place name across through reference b).notes → HasNoFaults b.notes
+pub nature_before : (place : Place) (name across through reference : Name) (b : Book) → HasNoFaults (nature place name across through reference b).notes → HasNoFaults b.notes
 nature_before place name across through reference b h =
     let a = found_thing across (lookup b.scope across.number) b.notes in
     let c = found_thing through (lookup b.scope through.number) a.0 in
@@ -114,7 +114,7 @@ module _ (natures : List ℕ) (name reference : Name) where
 shown_new : (a b : Thing) → IsShown (new_nature a b)
 shown_new a b = shown_where Bool _ true
 
-nature_declared : (natures : List ℕ) (place : Place) (name across through reference : Name) (c i : Book) → HasNoFaults (nature place name across through reference c).notes → AlikeBooks natures c i
+pub nature_declared : (natures : List ℕ) (place : Place) (name across through reference : Name) (c i : Book) → HasNoFaults (nature place name across through reference c).notes → AlikeBooks natures c i
     → AlikeBehind natures (nature place name across through reference c) (nature place name across through reference i)
 nature_declared natures place name across through reference c i n h =
     let a = found_thing across (lookup c.scope across.number) c.notes in
@@ -162,7 +162,7 @@ module _ (texts : List (List ℕ)) (place : Place) (name : Name) (literals : Lis
       let start : Book = with_notes (noted place WrongType b.notes) b in
       no_fault place WrongType b.notes (declared_before thing.Faulty name start (each_before faulty (declared_before thing.Faulty) literals (faulty name start) h))
 
-  enumeration_before : (b : Book) → HasNoFaults (enumeration texts place name literals b).notes → HasNoFaults b.notes
+  pub enumeration_before : (b : Book) → HasNoFaults (enumeration texts place name literals b).notes → HasNoFaults b.notes
   enumeration_before b h = go (is_enumeration texts literals b) h
     where
       go : (x : Bool) → HasNoFaults (if x then fine b else broken b).notes → HasNoFaults b.notes
@@ -194,7 +194,7 @@ module _ (texts : List (List ℕ)) (place : Place) (name : Name) (literals : Lis
         (broken_alike natures (thing.Type (of_enumeration (length c.objects.enumerations)) None) refl refl tt tt) (type_clean n)
         (record { scopes = h.scopes; count = h.count; some = h.some; told = told_noted place i.notes h.told }))
 
-    enumeration_alike : HasNoFaults (enumeration texts place name literals c).notes → AlikeBooks natures (enumeration texts place name literals c) (enumeration texts place name literals i)
+    pub enumeration_alike : HasNoFaults (enumeration texts place name literals c).notes → AlikeBooks natures (enumeration texts place name literals c) (enumeration texts place name literals i)
     enumeration_alike n = go (is_enumeration texts literals c) (is_enumeration texts literals i) n
       where
         go : (x y : Bool) → HasNoFaults (if x then fine c else broken c).notes → AlikeBooks natures (if x then fine c else broken c) (if y then fine i else broken i)

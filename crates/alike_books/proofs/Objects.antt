@@ -28,7 +28,7 @@ use Rattle.elab_meaning.specs.declared.typed.Valued.{Valued}
 use Rattle.elab_meaning.specs.Notes.{noted}
 use Rattle.elab_meaning.specs.Parts.{kept, judged, both, closed, found_thing}
 use Rattle.elab_meaning.specs.Subtypes.{subtype, initial}
-use Rattle.elab_meaning.specs.Declarations.{declared, with_notes, with_objects, faulty, with_signal, signal_of, constant_of, constant, nature_of, nature_named, node, with_quantity, quantity_of, initial_real, free_of, free_value, free_quantity, terminal_of, terminal_named, matched, matched_ends, ends, to_reference, branch, type_of_subtype}
+use Rattle.elab_meaning.specs.Declarations.{declared, with_notes, with_objects, path_of, faulty, with_signal, signal_of, constant_of, constant, nature_of, nature_named, node, with_quantity, quantity_of, initial_real, free_of, free_value, free_quantity, terminal_of, terminal_named, matched, matched_ends, ends, to_reference, branch, type_of_subtype}
 use Rattle.alike_laws.specs.Alike.{HasNoFaults, OnlyTold, FollowsIn, Reads, IsShown, is_faulty, is_label, changes, own_nature, terminal_nature, at_instance, IsNumbered, SameNature, AlikeThing, AlikeFound, AlikeScopes}
 use Rattle.alike_laws.proofs.Notes.{no_fault, told_noted, follows_same, follows_on}
 use Rattle.alike_books.specs.Books.{AlikeBooks}
@@ -44,8 +44,11 @@ signal_before texts a v x b h = declared_before (thing.Signal (length b.objects.
 pub constant_before : (v : Valued) → RuleBefore (constant v)
 constant_before v x b h = declared_before (constant_of v) x b h
 
+abbrev with_node : List (List ℕ) → Name → Book → Book
+with_node texts x b = with_objects (record b.objects { nodes = b.objects.nodes ++ record { path = path_of texts x b } ∷ [] }) b
+
 pub node_before : (texts : List (List ℕ)) (m : ℕ) → RuleBefore (node texts m)
-node_before texts m x b h = declared_before (thing.Terminal (terminal.Node (length b.objects.nodes)) m) x (with_objects _ b) h
+node_before texts m x b h = declared_before (thing.Terminal (terminal.Node (length b.objects.nodes)) m) x (with_node texts x b) h
 
 pub quantity_of_before : (texts : List (List ℕ)) (k : QuantityKind) (q : QuantityClass) (v : ℤ) → RuleBefore (quantity_of texts k q v)
 quantity_of_before texts k q v x b h = declared_before (thing.Quantity (length b.objects.quantities) q) x (with_quantity texts k v x b) h
@@ -114,12 +117,12 @@ module _ (natures : List ℕ) where
 
   pub nodes_alike : (texts : List (List ℕ)) (m n : ℕ) → m < length natures → n ≡ at_instance natures m → RulesAlike natures (node texts m) (node texts n)
   nodes_alike texts m n known same x c i g h =
-      declared_alike natures (thing.Terminal (terminal.Node (length c.objects.nodes)) m) (thing.Terminal (terminal.Node (length i.objects.nodes)) n) x (with_objects _ c) (with_objects _ i)
+      declared_alike natures (thing.Terminal (terminal.Node (length c.objects.nodes)) m) (thing.Terminal (terminal.Node (length i.objects.nodes)) n) x (with_node texts x c) (with_node texts x i)
       (terminal_alike (terminal.Node (length c.objects.nodes)) (terminal.Node (length i.objects.nodes)) m n known same) g (with_books natures c i _ _ h)
 
   pub nodes_broken : (texts : List (List ℕ)) (m : ℕ) → m < length natures → RulesAlike natures (node texts m) faulty
   nodes_broken texts m known x c i g h =
-      declared_alike natures (thing.Terminal (terminal.Node (length c.objects.nodes)) m) thing.Faulty x (with_objects _ c) i
+      declared_alike natures (thing.Terminal (terminal.Node (length c.objects.nodes)) m) thing.Faulty x (with_node texts x c) i
       (broken_alike (thing.Terminal (terminal.Node (length c.objects.nodes)) m) refl refl known tt) g (with_books natures c i _ i.objects h)
 
   pub quantities_alike : (texts : List (List ℕ)) (k n : QuantityKind) (q r : QuantityClass) (v w : ℤ) → RulesAlike natures (quantity_of texts k q v) (quantity_of texts n r w)

@@ -108,7 +108,7 @@ shown_range s (Some _) b = tt
 shown_range s None b = tt
 
 shown_narrowed : (s : Subtype) (a b : Asked) → IsShown (narrowed s a b)
-shown_narrowed s a b = go (is_ranged s.kind && (same_kind a.kind s.kind && same_kind b.kind s.kind))
+shown_narrowed s a b = go (is_ranged s.kind && same_kind a.kind s.kind && same_kind b.kind s.kind)
   where
     go : (x : Bool) → IsShown (if x then range_of s a.value b.value else Wrong)
     go true = shown_range s a.value b.value
