@@ -1,5 +1,5 @@
 -- Where no rule is broken behind a declaration none is broken before it, in any scope.
-use Rattle.std.proofs.Common.{◌≡◌, ℕ, ℤ, Bool, true, false, if◌then◌else◌, List, [], ◌∷◌, ◌++◌, Option, Some, None, refl, sym, ◌∙◌}
+use Rattle.std.proofs.Common.{◌≡◌, ℕ, Bool, true, false, if◌then◌else◌, List, [], ◌∷◌, ◌++◌, Option, Some, None, refl, sym, ◌∙◌}
 use Rattle.std.specs.Prelude.{nat_eq, ◌+◌}
 use Rattle.ams_token.specs.declared.token.Place.{Place}
 use Rattle.ams_tree.specs.declared.expression.Name.{Name}
@@ -27,7 +27,7 @@ use Rattle.elab_meaning.specs.Notes.{noted}
 use Rattle.elab_meaning.specs.Parts.{judged, both, closed, found_thing}
 use Rattle.elab_meaning.specs.Expressions.{asked_value, asked, expression, static_in}
 use Rattle.elab_meaning.specs.Subtypes.{declaring, static_part, index_subtype, marked, in_bounds, subtype, initial, valued}
-use Rattle.elab_meaning.specs.Declarations.{duplicate, declared, with_notes, each, faulty, each_of, declaring_each, nature_named, free_of, free_value, free_quantity, terminal_named, matched, matched_ends, branch, literals_from}
+use Rattle.elab_meaning.specs.Declarations.{duplicate, declared, with_notes, each, faulty, each_of, declaring_each, free_of, free_value, free_quantity, terminal_named, matched_ends, branch, literals_from}
 use Rattle.reading_laws.specs.Growing.{Grows}
 use Rattle.reading_laws.proofs.Reading.{reading_adds_notes}
 use Rattle.alike_laws.specs.Alike.{HasNoFaults}

@@ -1,6 +1,6 @@
 -- Branches between terminals, natures and enumeration types.
-use Rattle.std.proofs.Common.{◌≡◌, ◌<◌, ◌+◌, ℕ, Bool, true, false, if◌then◌else◌, List, [], ◌∷◌, ◌++◌, length, get_or, Option, Some, None, refl, sym, subst, ap, ◌∙◌, arith}
-use Rattle.std.specs.Prelude.{nat_eq, ◌&&◌}
+use Rattle.std.proofs.Common.{◌≡◌, ℕ, Bool, true, false, if◌then◌else◌, List, Option, Some, None, refl, sym, subst, ap, ◌∙◌, arith}
+use Rattle.std.specs.Prelude.{nat_eq}
 use Rattle.std.proofs.lemmas.Bool.Decides.{nat_tests}
 use Rattle.ams_token.specs.declared.token.Place.{Place}
 use Rattle.ams_tree.specs.declared.expression.Name.{Name}
@@ -14,7 +14,7 @@ use Rattle.elab_meaning.specs.declared.fault.Notes.{Notes}
 use Rattle.elab_meaning.specs.declared.part.Part.{Part}
 use Rattle.elab_meaning.specs.declared.part.Part.TheVariants.{Kept, Wrong, Hidden}
 use Rattle.elab_meaning.specs.Notes.{noted}
-use Rattle.elab_meaning.specs.Parts.{judged, both, found_thing}
+use Rattle.elab_meaning.specs.Parts.{judged, found_thing}
 use Rattle.elab_meaning.specs.Declarations.{terminal_of, terminal_named, matched_ends, ends, to_reference, branch}
 use Rattle.alike_laws.specs.Alike.{HasNoFaults, OnlyTold, Reads, IsShown, terminal_nature, at_instance, SameNature, AlikeFound, AlikeScopes}
 use Rattle.alike_laws.proofs.Notes.{no_fault}

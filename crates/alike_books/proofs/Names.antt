@@ -1,10 +1,9 @@
 -- Names of declarations, declared by the check and at an instance.
-use Rattle.std.proofs.Common.{◌≡◌, ℕ, Bool, true, false, List, [], ◌∷◌, ◌++◌, append-nil, Option, Some, None, refl, sym, subst}
+use Rattle.std.proofs.Common.{◌≡◌, ℕ, List, [], ◌∷◌, append-nil, Option, Some, None, refl, sym, subst}
 use Rattle.ams_token.specs.declared.token.Place.{Place}
 use Rattle.ams_tree.specs.declared.expression.Name.{Name}
 use Rattle.flat_design.specs.declared.objects.Objects.{Objects}
 use Rattle.name_scope.specs.declared.thing.Thing.{Thing}
-use Rattle.name_scope.specs.declared.thing.Thing.TheVariants as thing
 use Rattle.name_scope.specs.Scopes.{declared_in}
 use Rattle.elab_meaning.specs.declared.book.Book.{Book}
 use Rattle.elab_meaning.specs.declared.fault.Cause.TheVariants.{Duplicate, WrongType}
@@ -13,11 +12,11 @@ use Rattle.elab_meaning.specs.declared.part.Part.{Part}
 use Rattle.elab_meaning.specs.declared.part.Part.TheVariants.{Kept, Wrong, Hidden}
 use Rattle.elab_meaning.specs.Parts.{closed}
 use Rattle.elab_meaning.specs.Declarations.{duplicate, declared, with_notes, with_objects, each, faulty, each_of, declaring_each}
-use Rattle.alike_laws.specs.Alike.{HasNoFaults, OnlyTold, Reads, IsShown, is_faulty, is_label, changes, own_nature, terminal_nature, IsNumbered, AlikeThing, AlikeFound, AlikeScopes}
+use Rattle.alike_laws.specs.Alike.{HasNoFaults, OnlyTold, Reads, IsShown, AlikeThing, AlikeFound}
 use Rattle.alike_laws.proofs.Notes.{no_fault, told_noted}
 use Rattle.alike_laws.proofs.Scopes.{named_alike}
 use Rattle.alike_books.specs.Books.{AlikeBooks, AlikeBehind}
-use Rattle.alike_books.proofs.Before.{RuleBefore, declared_before, each_before, each_of_before, closed_before}
+use Rattle.alike_books.proofs.Before.{RuleBefore, each_before, each_of_before, closed_before}
 
 abbrev pub IsKept : {A : Type 0} → Part A → Type 0
 IsKept (Kept a) = Unit {0}

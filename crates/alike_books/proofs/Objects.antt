@@ -1,10 +1,5 @@
 -- What declarations declare: signals, constants, terminals, natures, quantities and types.
-use Rattle.std.proofs.Common.{◌≡◌, ◌<◌, ◌+◌, ℕ, ℤ, pos, Bool, true, false, if◌then◌else◌, List, [], ◌∷◌, ◌++◌, length, get_or, Option, Some, None, refl, sym, subst, ap, ◌∙◌, arith}
-use Rattle.std.specs.Prelude.{nat_eq, ◌&&◌}
-use Rattle.std.proofs.lemmas.Bool.Decides.{nat_tests}
-use Rattle.std.proofs.lemmas.List.{length-append}
-use Rattle.std.proofs.Math.Seq.{get_or-append_seam}
-use Rattle.ams_token.specs.declared.token.Place.{Place}
+use Rattle.std.proofs.Common.{◌≡◌, ◌<◌, ℕ, ℤ, pos, false, List, [], ◌∷◌, ◌++◌, length, Option, Some, None, refl, sym, subst, ap, ◌∙◌}
 use Rattle.ams_tree.specs.declared.expression.Name.{Name}
 use Rattle.ams_tree.specs.declared.expression.Expr.{Expr}
 use Rattle.ams_tree.specs.declared.declaration.SubtypeIndication.{SubtypeIndication}
@@ -20,21 +15,18 @@ use Rattle.name_scope.specs.declared.thing.Thing.{Thing}
 use Rattle.name_scope.specs.declared.thing.Thing.TheVariants as thing
 use Rattle.name_scope.specs.Scopes.{lookup}
 use Rattle.elab_meaning.specs.declared.book.Book.{Book}
-use Rattle.elab_meaning.specs.declared.fault.Cause.TheVariants.{WrongType, NatureMismatch}
 use Rattle.elab_meaning.specs.declared.fault.Notes.{Notes}
 use Rattle.elab_meaning.specs.declared.part.Part.{Part}
-use Rattle.elab_meaning.specs.declared.part.Part.TheVariants.{Kept, Wrong, Hidden}
+use Rattle.elab_meaning.specs.declared.part.Part.TheVariants.{Kept}
 use Rattle.elab_meaning.specs.declared.typed.Valued.{Valued}
-use Rattle.elab_meaning.specs.Notes.{noted}
-use Rattle.elab_meaning.specs.Parts.{kept, judged, both, closed, found_thing}
+use Rattle.elab_meaning.specs.Parts.{kept, judged, found_thing}
 use Rattle.elab_meaning.specs.Subtypes.{subtype, initial}
-use Rattle.elab_meaning.specs.Declarations.{declared, with_notes, with_objects, path_of, faulty, with_signal, signal_of, constant_of, constant, nature_of, nature_named, node, with_quantity, quantity_of, initial_real, free_of, free_value, free_quantity, terminal_of, terminal_named, matched, matched_ends, ends, to_reference, branch, type_of_subtype}
-use Rattle.alike_laws.specs.Alike.{HasNoFaults, OnlyTold, FollowsIn, Reads, IsShown, is_faulty, is_label, changes, own_nature, terminal_nature, at_instance, IsNumbered, SameNature, AlikeThing, AlikeFound, AlikeScopes}
-use Rattle.alike_laws.proofs.Notes.{no_fault, told_noted, follows_same, follows_on}
-use Rattle.alike_books.specs.Books.{AlikeBooks}
-use Rattle.alike_books.proofs.Before.{RuleBefore, declared_before, quantity_before}
-use Rattle.alike_books.proofs.Parts.{shown_where, shown_judged, shown_both, found_reads, subtype_reads, initial_reads}
-use Rattle.alike_books.proofs.Names.{IsKept, with_books, declared_alike, RulesAlike}
+use Rattle.elab_meaning.specs.Declarations.{with_objects, path_of, faulty, with_signal, signal_of, constant_of, constant, nature_of, nature_named, node, with_quantity, quantity_of, initial_real, free_of, free_value, free_quantity, type_of_subtype}
+use Rattle.alike_laws.specs.Alike.{HasNoFaults, Reads, IsShown, is_faulty, is_label, own_nature, terminal_nature, at_instance, IsNumbered, SameNature, AlikeThing, AlikeFound, AlikeScopes}
+use Rattle.alike_laws.proofs.Notes.{follows_same, follows_on}
+use Rattle.alike_books.proofs.Before.{RuleBefore, declared_before}
+use Rattle.alike_books.proofs.Parts.{shown_where, shown_judged, found_reads, subtype_reads, initial_reads}
+use Rattle.alike_books.proofs.Names.{with_books, declared_alike, RulesAlike}
 
 -- ---- rules of names break no rule before
 
@@ -44,7 +36,7 @@ signal_before texts a v x b h = declared_before (thing.Signal (length b.objects.
 pub constant_before : (v : Valued) → RuleBefore (constant v)
 constant_before v x b h = declared_before (constant_of v) x b h
 
-abbrev with_node : List (List ℕ) → Name → Book → Book
+abbrev pub with_node : List (List ℕ) → Name → Book → Book
 with_node texts x b = with_objects (record b.objects { nodes = b.objects.nodes ++ record { path = path_of texts x b } ∷ [] }) b
 
 pub node_before : (texts : List (List ℕ)) (m : ℕ) → RuleBefore (node texts m)

@@ -1,5 +1,5 @@
 -- Parts of declarations, read twice.
-use Rattle.std.proofs.Common.{◌≡◌, ℕ, Bool, true, false, if◌then◌else◌, List, [], ◌∷◌, Option, Some, None, refl}
+use Rattle.std.proofs.Common.{◌≡◌, ℕ, Bool, true, false, if◌then◌else◌, List, Option, Some, None}
 use Rattle.std.specs.Prelude.{◌&&◌, ◌||◌, int_lt, int_le, pos, unsigned_abs}
 use Rattle.ams_tree.specs.declared.expression.Name.{Name}
 use Rattle.ams_tree.specs.declared.expression.Expr.{Expr}
@@ -17,17 +17,17 @@ use Rattle.name_scope.specs.declared.thing.Subtype.{Subtype}
 use Rattle.name_scope.specs.declared.thing.Thing.{Thing}
 use Rattle.name_scope.specs.declared.thing.Thing.TheVariants as thing
 use Rattle.name_scope.specs.Scopes.{lookup}
-use Rattle.elab_meaning.specs.declared.fault.Cause.TheVariants.{Unknown, WrongType}
+use Rattle.elab_meaning.specs.declared.fault.Cause.TheVariants.{Unknown}
 use Rattle.elab_meaning.specs.declared.fault.Notes.{Notes}
 use Rattle.elab_meaning.specs.declared.part.Part.{Part}
 use Rattle.elab_meaning.specs.declared.part.Part.TheVariants.{Kept, Wrong, Hidden}
 use Rattle.elab_meaning.specs.declared.typed.Asked.{Asked}
 use Rattle.elab_meaning.specs.declared.typed.Valued.{Valued}
 use Rattle.elab_meaning.specs.Kinds.{same_kind}
-use Rattle.elab_meaning.specs.Parts.{where_true, judged, both, closed, found_thing}
-use Rattle.elab_meaning.specs.Subtypes.{static_part, bound_value, index_bound, vector_of, bounded, given_index, indexed, ranged_index, index_subtype, marked, is_ranged, holds, ranged, range_of, narrowed, wrong_beside, narrowed_by, in_bounds, subtype, suits, written, leftmost, default, initial, valued}
-use Rattle.alike_laws.specs.Alike.{HasNoFaults, OnlyTold, FollowsIn, Reads, IsShown, is_faulty, AlikeFound, AlikeScopes}
-use Rattle.alike_laws.proofs.Notes.{no_fault, told_noted, follows_same, follows_on, reads_never}
+use Rattle.elab_meaning.specs.Parts.{where_true, judged, both, found_thing}
+use Rattle.elab_meaning.specs.Subtypes.{static_part, bound_value, index_bound, vector_of, bounded, given_index, indexed, index_subtype, marked, is_ranged, holds, range_of, narrowed, wrong_beside, narrowed_by, in_bounds, subtype, suits, written, leftmost, default, initial, valued}
+use Rattle.alike_laws.specs.Alike.{HasNoFaults, OnlyTold, Reads, IsShown, is_faulty, AlikeFound, AlikeScopes}
+use Rattle.alike_laws.proofs.Notes.{no_fault, follows_same, follows_on, reads_never}
 use Rattle.alike_laws.proofs.Whole.{readings_follow}
 use Rattle.alike_books.specs.Books.{SubtypesFollow, ValuesFollow}
 

@@ -1,41 +1,31 @@
 -- All declarations of an architecture, and the labels of its statements.
-use Rattle.std.proofs.Common.{◌≡◌, ◌<◌, ◌+◌, ℕ, ℤ, pos, Bool, true, false, if◌then◌else◌, List, [], ◌∷◌, ◌++◌, length, length-append, get_or, append_assoc, Option, Some, None, refl, sym, subst, ap, ◌∙◌, arith}
-use Rattle.std.proofs.Math.Seq.{get_or-append_seam}
+use Rattle.std.proofs.Common.{ℕ, ℤ, pos, List, [], ◌∷◌, ◌++◌, append_assoc, Option, Some, None, refl, subst}
 use Rattle.ams_token.specs.declared.token.Place.{Place}
 use Rattle.ams_tree.specs.declared.expression.Name.{Name}
 use Rattle.ams_tree.specs.declared.declaration.Declaration.{Declaration}
 use Rattle.ams_tree.specs.declared.declaration.Declaration.TheVariants as declare
 use Rattle.ams_tree.specs.declared.concurrent.Concurrent.{Concurrent}
-use Rattle.ams_value.specs.declared.val.Val.TheVariants as val
 use Rattle.flat_design.specs.declared.objects.Terminal.{Terminal}
-use Rattle.flat_design.specs.declared.objects.Terminal.TheVariants as terminal
 use Rattle.flat_design.specs.declared.objects.QuantityKind.TheVariants as flat
 use Rattle.name_scope.specs.declared.thing.Access.TheVariants.{Assignable}
 use Rattle.name_scope.specs.declared.thing.QuantityClass.TheVariants as class
 use Rattle.name_scope.specs.declared.thing.Subtype.{Subtype}
-use Rattle.name_scope.specs.declared.thing.Thing.{Thing}
 use Rattle.name_scope.specs.declared.thing.Thing.TheVariants as thing
 use Rattle.name_scope.specs.Scopes.{lookup}
 use Rattle.elab_meaning.specs.declared.book.Book.{Book}
-use Rattle.elab_meaning.specs.declared.fault.Cause.TheVariants.{WrongType}
-use Rattle.elab_meaning.specs.declared.fault.Notes.{Notes}
 use Rattle.elab_meaning.specs.declared.part.Part.{Part}
-use Rattle.elab_meaning.specs.declared.part.Part.TheVariants.{Kept, Wrong, Hidden}
 use Rattle.elab_meaning.specs.declared.typed.Valued.{Valued}
-use Rattle.elab_meaning.specs.Notes.{noted}
-use Rattle.elab_meaning.specs.Parts.{both, closed, found_thing}
+use Rattle.elab_meaning.specs.Parts.{closed}
 use Rattle.elab_meaning.specs.Subtypes.{subtype, valued}
-use Rattle.elab_meaning.specs.Declarations.{declared, with_notes, each, faulty, each_of, declaring_each, signal_of, constant, nature_named, node, new_nature, with_nature, nature_of_part, nature, quantity_of, free_quantity, branch, across_of, through_of, names_of, branch_quantities, is_enumeration, with_enumeration, literals_from, of_enumeration, enumeration, type_of_subtype, declaration, declarations}
+use Rattle.elab_meaning.specs.Declarations.{declared, with_notes, declaring_each, signal_of, constant, nature_named, node, quantity_of, free_quantity, branch, across_of, through_of, names_of, branch_quantities, type_of_subtype, declaration, declarations}
 use Rattle.unit_meaning.specs.Units.{label, labels, opened}
 use Rattle.ams_tree.specs.declared.design.Architecture.{Architecture}
-use Rattle.alike_laws.specs.Alike.{HasNoFaults, OnlyTold, FollowsIn, Reads, IsShown, at_instance, AlikeThing, AlikeScopes}
-use Rattle.alike_laws.proofs.Notes.{no_fault, told_noted, follows_on}
-use Rattle.alike_laws.proofs.Scopes.{scopes_more}
+use Rattle.alike_laws.specs.Alike.{HasNoFaults, Reads, IsShown, AlikeThing}
 use Rattle.alike_books.specs.Books.{AlikeBooks, AlikeBehind, BooksFollow, DeclarationsFollow, PartsFollow}
-use Rattle.alike_books.proofs.Before.{RuleBefore, found_before, valued_before, quantity_before, subtype_before, branch_before, closed_before, declared_before, each_before, each_of_before, declaring_before, literals_before}
+use Rattle.alike_books.proofs.Before.{RuleBefore, found_before, valued_before, quantity_before, subtype_before, branch_before, declared_before, each_of_before, declaring_before}
 use Rattle.alike_books.proofs.Parts.{subtype_reads, valued_reads, subtypes_follow, values_follow}
-use Rattle.alike_books.proofs.Names.{IsKept, kept_closed, behind_same, told_closed, noted_books, with_books, declared_alike, RulesAlike, PartsAlike, each_alike, each_of_alike, declaring_alike}
-use Rattle.alike_books.proofs.Objects.{signal_before, constant_before, node_before, quantity_of_before, type_before, broken_alike, literal_alike, terminal_alike, nature_alike, type_alike, signals_alike, signals_broken, constants_alike, constants_broken, nodes_alike, nodes_broken, quantities_alike, quantities_broken, types_alike, types_broken, nature_reads, nature_known, nature_same, free_reads}
+use Rattle.alike_books.proofs.Names.{kept_closed, behind_same, declared_alike, each_of_alike, declaring_alike}
+use Rattle.alike_books.proofs.Objects.{signal_before, constant_before, node_before, quantity_of_before, type_before, signals_alike, signals_broken, constants_alike, constants_broken, nodes_alike, nodes_broken, quantities_alike, quantities_broken, types_alike, types_broken, nature_reads, nature_known, nature_same, free_reads}
 use Rattle.alike_books.proofs.Branches.{branch_reads}
 use Rattle.alike_books.proofs.Declarations.{nature_before, nature_declared, enumeration_before, enumeration_alike}
 

@@ -38,12 +38,12 @@ pub record BooksFollow (c d i j : Book) : Type 0 where
 abbrev pub SubtypesFollow : Type 0
 SubtypesFollow =
     (natures : List ℕ) (a b : Scope) → AlikeScopes natures a b → (texts : List (List ℕ)) (x : SubtypeIndication) (c i : Notes)
-      → Reads (Part Subtype) (Part Subtype) IsShown c (subtype texts a x c) i (subtype texts b x i)
+    → Reads (Part Subtype) (Part Subtype) IsShown c (subtype texts a x c) i (subtype texts b x i)
 
 abbrev pub ValuesFollow : Type 0
 ValuesFollow =
     (natures : List ℕ) (a b : Scope) → AlikeScopes natures a b → (texts : List (List ℕ)) (x : SubtypeIndication) (y : Option Expr) (c i : Notes)
-      → Reads (Part Valued) (Part Valued) IsShown c (valued texts a x y c) i (valued texts b x y i)
+    → Reads (Part Valued) (Part Valued) IsShown c (valued texts a x y c) i (valued texts b x y i)
 
 -- in any scope reading a value of a declaration breaks no rule only where none was broken before
 abbrev pub ValuesGrow : Type 0

@@ -1,5 +1,5 @@
 -- One expression in alike scopes, by induction on the tree.
-use Rattle.std.proofs.Common.{◌≡◌, ℕ, Bool, true, false, List, [], ◌∷◌, ◌++◌, map, Option, Some, None, is_some, IsSome, refl, sym, subst, ap, ◌∙◌}
+use Rattle.std.proofs.Common.{◌≡◌, ℕ, Bool, true, false, List, [], ◌∷◌, map, Option, Some, None, IsSome, refl, sym, subst}
 use Rattle.std.specs.Prelude.{◌&&◌}
 use Rattle.ams_token.specs.declared.token.Place.{Place}
 use Rattle.ams_tree.specs.declared.expression.Name.{Name}
@@ -17,10 +17,10 @@ use Rattle.elab_meaning.specs.declared.fault.Cause.TheVariants.{Unknown}
 use Rattle.elab_meaning.specs.declared.fault.Notes.{Notes}
 use Rattle.elab_meaning.specs.declared.typed.Context.{Context}
 use Rattle.elab_meaning.specs.declared.typed.Typed.{Typed}
-use Rattle.elab_meaning.specs.Notes.{Found, changing}
-use Rattle.elab_meaning.specs.Names.{named, call_at, missing, ramp_at}
-use Rattle.elab_meaning.specs.Expressions.{Reading, prefix, infix_of, unary_at, binary_at, parenthesized, asked, is_fine, static_in, put, arguments, time_of, attribute_step, expr_step, expression, attribute}
-use Rattle.alike_laws.specs.Alike.{HasNoFaults, OnlyTold, FollowsIn, Reads, AlikeFound, AlikeScopes}
+use Rattle.elab_meaning.specs.Notes.{changing}
+use Rattle.elab_meaning.specs.Names.{call_at, missing}
+use Rattle.elab_meaning.specs.Expressions.{Reading, prefix, infix_of, unary_at, binary_at, parenthesized, static_in, put, arguments, time_of, attribute_step, expr_step, expression, attribute}
+use Rattle.alike_laws.specs.Alike.{HasNoFaults, Reads, AlikeFound, AlikeScopes}
 use Rattle.alike_laws.proofs.Notes.{no_fault, follows_same, follows_on, reads_of, reads_never, reads_then, changing_before}
 use Rattle.alike_laws.proofs.Steps.{Both, literal_reads, number_reads, name_reads, call_clean, call_before, told_call}
 use Rattle.alike_laws.proofs.Attributes.{event_reads, dot_reads, reference_reads, above_reads, asked_passes, never_ramp, ramp_before, unary_passes, told_unary, paren_passes, told_paren, binary_before, binary_there, told_binary}
@@ -140,7 +140,7 @@ module _ (natures : List ℕ) (texts : List (List ℕ)) (a b : Scope) (alike : A
       attribute_lift (Attribute-F.Above p.0) (attribute_step a (Attribute-F.Above (expression texts a p.0))) (attribute_step b (Attribute-F.Above (expression texts b p.0)))
       (rolled a (Attribute-F.Above p.0)) (rolled b (Attribute-F.Above p.0))
       (λ x k c i.
-          above_reads natures k x (lookup a x.number) (lookup b x.number) c (expression texts a p.0 (static_in k) c) i (expression texts b p.0 (static_in k) i) (alike.seen x.number) (p.1 (static_in k) c i))
+      above_reads natures k x (lookup a x.number) (lookup b x.number) c (expression texts a p.0 (static_in k) c) i (expression texts b p.0 (static_in k) i) (alike.seen x.number) (p.1 (static_in k) c i))
   attribute_steps (Attribute-F.Ramp rise fall) = ramp_step rise fall
 
   -- ---- expressions
@@ -167,11 +167,11 @@ module _ (natures : List ℕ) (texts : List (List ℕ)) (a b : Scope) (alike : A
       let list = list_reads k all (Some []) (Some []) c i in
       reads_of (Option Typed) (Option Typed) IsSome c (call_at k x (Some t) r.1 r.0) i (call_at k x (Some u) s.1 s.0)
       (λ g.
-          let on = call_before k x t r.1 r.0 h.whole g in
-          (list.notes.before on, (call_clean k x t r.1 r.0 h.whole (list.right on refl)).there g))
+      let on = call_before k x t r.1 r.0 h.whole g in
+      (list.notes.before on, (call_clean k x t r.1 r.0 h.whole (list.right on refl)).there g))
       (λ g o.
-          let on = call_before k x t r.1 r.0 h.whole g in
-          told_call k x u s.1 s.0 (λ is. (call_clean k x t r.1 r.0 h.whole (list.right on refl)).still g (h.changing is)) (list.notes.told on o))
+      let on = call_before k x t r.1 r.0 h.whole g in
+      told_call k x u s.1 s.0 (λ is. (call_clean k x t r.1 r.0 h.whole (list.right on refl)).still g (h.changing is)) (list.notes.told on o))
   call_found k x all None None c i h =
       let r = arguments k (Some []) (readings a all) (missing x None c) in
       let s = arguments k (Some []) (readings b all) (missing x None i) in
@@ -195,12 +195,12 @@ module _ (natures : List ℕ) (texts : List (List ℕ)) (a b : Scope) (alike : A
       let right : Both l.0 r m.0 s = q.1 k l.0 m.0 in
       reads_of (Option Typed) (Option Typed) IsSome c (binary_at op l.1 r.1 r.0) i (binary_at op m.1 s.1 s.0)
       (λ h.
-          let on = binary_before op l.1 r.1 r.0 h in
-          let back = right.notes.before on in
-          (left.notes.before back, binary_there op l.1 r.1 r.0 h (left.right back) (right.right on)))
+      let on = binary_before op l.1 r.1 r.0 h in
+      let back = right.notes.before on in
+      (left.notes.before back, binary_there op l.1 r.1 r.0 h (left.right back) (right.right on)))
       (λ h o.
-          let on = binary_before op l.1 r.1 r.0 h in
-          told_binary op m.1 s.1 s.0 (right.notes.told on (left.notes.told (right.notes.before on) o)))
+      let on = binary_before op l.1 r.1 r.0 h in
+      told_binary op m.1 s.1 s.0 (right.notes.told on (left.notes.told (right.notes.before on) o)))
 
   unary_reads : (op : UnaryOperator) (place : Place) (p : ExprPart) (k : Context) (c i : Notes)
       → Both c (unary_at op place (expression texts a p.0 k c).1 (expression texts a p.0 k c).0) i (unary_at op place (expression texts b p.0 k i).1 (expression texts b p.0 k i).0)

@@ -1,5 +1,5 @@
 -- Scopes that stay alike.
-use Rattle.std.proofs.Common.{◌≡◌, ◌<◌, ◌+◌, ℕ, arith, Bool, true, false, cond, if◌then◌else◌, List, [], ◌∷◌, ◌++◌, length, get_or, Option, Some, None, refl, sym, subst, ap, ◌∙◌}
+use Rattle.std.proofs.Common.{◌≡◌, ◌<◌, ◌+◌, ℕ, arith, Bool, true, false, cond, if◌then◌else◌, List, [], ◌∷◌, ◌++◌, length, Option, Some, None, refl, sym, subst, ap, ◌∙◌}
 use Rattle.std.specs.Prelude.{nat_eq}
 use Rattle.std.proofs.lemmas.Bool.Decides.{nat_tests}
 use Rattle.std.proofs.lemmas.List.{get_or_append_left, length-append}
@@ -7,7 +7,7 @@ use Rattle.name_scope.specs.declared.thing.Thing.{Thing}
 use Rattle.name_scope.specs.declared.thing.Thing.TheVariants as thing
 use Rattle.name_scope.specs.declared.scope.Scope.{Scope}
 use Rattle.name_scope.specs.Scopes.{Region, declared_in, unless_there, with_thing, visible, or_in, among, lookup, with_name, inside}
-use Rattle.alike_laws.specs.Alike.{is_label, own_nature, terminal_nature, at_instance, IsNumbered, SameNature, AlikeThing, AlikeFound, AlikeScopes}
+use Rattle.alike_laws.specs.Alike.{is_label, own_nature, terminal_nature, IsNumbered, SameNature, AlikeThing, AlikeFound, AlikeScopes}
 
 -- ---- one more name
 
@@ -42,6 +42,7 @@ with_is region name t x = go (declared_in region name) refl
       where
         none : (z : Thing) → Some z ≡ None → ⊥
         none z is = cc
+
     go : (o : Option Thing) → declared_in region name ≡ o → declared_in (unless_there o region name t) x ≡ new_found (declared_in region x) (nat_eq x name) t
     go (Some y) h = there y (declared_in region x) (nat_eq x name) h refl refl
     go None h = behind_is region name t x

@@ -1,40 +1,30 @@
 -- The steps of reading an expression: what the check breaks, and what an instance may.
-use Rattle.std.proofs.Common.{◌≡◌, ℕ, Bool, true, false, if◌then◌else◌, List, [], ◌∷◌, length, Option, Some, None, is_some, IsSome, refl, sym, subst}
-use Rattle.std.specs.Prelude.{nat_le, ◌&&◌}
+use Rattle.std.proofs.Common.{◌≡◌, ℕ, Bool, true, false, if◌then◌else◌, List, [], ◌∷◌, Option, Some, None, IsSome, refl}
+use Rattle.std.specs.Prelude.{◌&&◌}
 use Rattle.ams_token.specs.declared.token.Place.{Place}
 use Rattle.ams_tree.specs.declared.expression.Name.{Name}
 use Rattle.ams_tree.specs.declared.expression.NumberValue.{NumberValue}
 use Rattle.ams_tree.specs.declared.expression.LiteralValue.{LiteralValue}
 use Rattle.ams_value.specs.declared.val.Val.{Val}
-use Rattle.ams_value.specs.declared.op.UnaryOperator.{UnaryOperator}
-use Rattle.ams_value.specs.declared.op.BinaryOperator.{BinaryOperator}
 use Rattle.ams_value.specs.declared.value_type.ValueType.TheVariants as kind
 use Rattle.flat_expr.specs.declared.expr.FlatExpr.{FlatExpr}
 use Rattle.flat_expr.specs.declared.expr.Function.{Function}
-use Rattle.flat_design.specs.Limits.{unknown_limit, threshold_limit}
-use Rattle.flat_design.specs.declared.objects.Threshold.{Threshold}
-use Rattle.flat_design.specs.declared.objects.Terminal.TheVariants as terminal
 use Rattle.name_scope.specs.declared.thing.Thing.{Thing}
 use Rattle.name_scope.specs.declared.thing.Thing.TheVariants as thing
 use Rattle.name_scope.specs.declared.thing.Kind.{Kind}
 use Rattle.name_scope.specs.declared.thing.Kind.TheVariants.{Of}
 use Rattle.name_scope.specs.declared.thing.Subtype.{Subtype}
-use Rattle.elab_meaning.specs.declared.fault.Cause.{Cause}
 use Rattle.elab_meaning.specs.declared.fault.Cause.TheVariants.{Unknown, WrongType}
 use Rattle.elab_meaning.specs.declared.fault.Notes.{Notes}
-use Rattle.elab_meaning.specs.declared.typed.Asked.{Asked}
 use Rattle.elab_meaning.specs.declared.typed.Context.{Context}
 use Rattle.elab_meaning.specs.declared.typed.Scale.{Scale}
-use Rattle.elab_meaning.specs.declared.typed.StaticValue.{StaticValue}
-use Rattle.elab_meaning.specs.declared.typed.StaticValue.TheVariants.{Known, Faulty, Later, Changing}
 use Rattle.elab_meaning.specs.declared.typed.Surrounding.{Surrounding}
 use Rattle.elab_meaning.specs.declared.typed.Surrounding.TheVariants as surrounding
 use Rattle.elab_meaning.specs.declared.typed.Typed.{Typed}
-use Rattle.elab_meaning.specs.Kinds.{unary_kind, binary_kind, same_kind, is_vector}
-use Rattle.elab_meaning.specs.Notes.{Found, noted, wrong, changing, dotted, watched}
+use Rattle.elab_meaning.specs.Kinds.{same_kind, is_vector}
+use Rattle.elab_meaning.specs.Notes.{Found, wrong}
 use Rattle.elab_meaning.specs.Literals.{in_range, number_literal, content_literal, scaled_at, time_at, time_literal, number_at, literal_at}
-use Rattle.elab_meaning.specs.Names.{read, named, now_at, function_at, vector_at, indexed, applied, call_with, call_at, missing, element_at, element_of_name, event_at, no_event, event_in, dot, dot_at, reference_at, threshold, above, above_at, ramp_at}
-use Rattle.elab_meaning.specs.Expressions.{prefixed, unary_at, joined, binary_at, parenthesized, asked_value, asked}
+use Rattle.elab_meaning.specs.Names.{read, named, now_at, function_at, vector_at, indexed, applied, call_with, call_at, element_at, element_of_name}
 use Rattle.alike_laws.specs.Alike.{HasNoFaults, OnlyTold, Reads, AlikeFound, changes, is_faulty}
 use Rattle.alike_laws.proofs.Notes.{no_fault, told_noted, changing_still, changing_before, changing_told, reads_of, reads_never}
 

@@ -1,8 +1,5 @@
 -- Expressions whose values are asked, and the laws as a whole.
-use Rattle.std.proofs.Common.{ℕ, List, Option, Some, None, IsSome}
-use Rattle.ams_tree.specs.declared.expression.Expr.{Expr}
-use Rattle.name_scope.specs.declared.scope.Scope.{Scope}
-use Rattle.elab_meaning.specs.declared.part.Part.{Part}
+use Rattle.std.proofs.Common.{Option, Some, None, IsSome}
 use Rattle.elab_meaning.specs.declared.typed.Asked.{Asked}
 use Rattle.elab_meaning.specs.declared.typed.Typed.{Typed}
 use Rattle.elab_meaning.specs.Parts.{part_of}

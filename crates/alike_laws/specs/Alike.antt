@@ -112,17 +112,17 @@ pub record AlikeScopes (natures : List ℕ) (c i : Scope) : Type 0 where
 abbrev pub ExpressionsFollow : Type 0
 ExpressionsFollow =
     (natures : List ℕ) (a b : Scope) → AlikeScopes natures a b → (texts : List (List ℕ)) (x : Expr) (k : Context) (c i : Notes)
-      → Reads (Option Typed) (Option Typed) IsSome c (expression texts a x k c) i (expression texts b x k i)
+    → Reads (Option Typed) (Option Typed) IsSome c (expression texts a x k c) i (expression texts b x k i)
 
 abbrev pub StaticsFollow : Type 0
 StaticsFollow =
     (natures : List ℕ) (a b : Scope) → AlikeScopes natures a b → (texts : List (List ℕ)) (x : Expr) (k : Context) (c i : Notes)
-      → Reads (Option Asked) (Option Asked) IsSome c (static texts a x k c) i (static texts b x k i)
+    → Reads (Option Asked) (Option Asked) IsSome c (static texts a x k c) i (static texts b x k i)
 
 abbrev pub StaticPartsFollow : Type 0
 StaticPartsFollow =
     (natures : List ℕ) (a b : Scope) → AlikeScopes natures a b → (texts : List (List ℕ)) (x : Expr) (c i : Notes)
-      → Reads (Part Asked) (Part Asked) IsShown c (static_part texts a x c) i (static_part texts b x i)
+    → Reads (Part Asked) (Part Asked) IsShown c (static_part texts a x c) i (static_part texts b x i)
 
 -- an expression reads so in alike scopes, in each context
 pub record ReadingsFollow : Type 0 where
