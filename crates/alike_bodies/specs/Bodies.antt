@@ -12,5 +12,5 @@ use Rattle.alike_parts.specs.Follows.{BothRead, FollowsIf}
 abbrev pub BodiesFollow : Type 0
 BodiesFollow =
     (G : Bool) (natures : List ℕ) (v w : Setting) (c i : Scope) → BothRead (IsTrue G) natures v w c i
-      → (all : List Seq) (s u : Spot) (k : ℕ) (d e : Draft)
-      → FollowsIf (IsTrue G) d.notes e.notes (body (map (statement_of v) all) c s k d).0.notes (body (map (statement_of w) all) i u k e).0.notes
+    → (all : List Seq) (s u : Spot) (k : ℕ) (d e : Draft)
+    → FollowsIf (IsTrue G) d.notes e.notes (body (map (statement_of v) all) c s k d).0.notes (body (map (statement_of w) all) i u k e).0.notes

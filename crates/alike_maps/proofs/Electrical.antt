@@ -148,7 +148,6 @@ module _ (texts : List (List ℕ)) (start scope : Scope) where
   abbrev port_rule : Rule (Option Name)
   port_rule formal place x = port_actual texts start scope formal x (out-Expr x)
 
-
   other_electrical : (o : Option Typed) → IsElectrical (other_actual o)
   other_electrical None = refl
   other_electrical (Some x) = refl

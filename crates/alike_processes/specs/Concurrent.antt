@@ -11,4 +11,4 @@ use Rattle.alike_parts.specs.Follows.{BothRead, ReadsFollow}
 abbrev pub ConcurrentStatementsFollow : Type 0
 ConcurrentStatementsFollow =
     (G : Bool) (natures : List ℕ) (v w : Setting) (c i : Scope) → BothRead (IsTrue G) natures v w c i → PartsFollow
-      → (label : Option Name) (x : ConcurrentStatement) → ReadsFollow (IsTrue G) (λ n. (concurrent v c label x n).0) (λ n. (concurrent w i label x n).0)
+    → (label : Option Name) (x : ConcurrentStatement) → ReadsFollow (IsTrue G) (λ n. (concurrent v c label x n).0) (λ n. (concurrent w i label x n).0)
