@@ -1,0 +1,5 @@
+use Rattle.instance_laws.proofs.Instances.{instances_follow}
+use Rattle.instance_laws.proofs.instances_follow.Goals as goal
+
+pub returns : goal.returns
+returns c = instances_follow
