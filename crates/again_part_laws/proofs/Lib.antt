@@ -1,0 +1,3 @@
+pub mod Like
+pub mod Parts
+pub mod Statements

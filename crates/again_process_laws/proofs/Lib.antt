@@ -1,0 +1,4 @@
+pub mod Values
+pub mod Processes
+pub mod Maps
+pub mod Whole
