@@ -1,0 +1,5 @@
+pub mod Subtypes
+pub mod Start
+pub mod Books
+pub mod Interfaces
+pub mod Whole

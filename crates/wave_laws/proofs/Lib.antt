@@ -1,0 +1,3 @@
+pub mod Waves
+pub mod Equivalent
+pub mod Whole
