@@ -1,6 +1,6 @@
 //! The lines of events.
 
-ghost use Rattle.std.specs.Prelude.{◌≡◌, [], OnOk, IfErr};
+ghost use Rattle.std.specs.Prelude.{◌≡◌};
 ghost use Rattle.line_sink.specs.Shown.{shown, Gained, Stopped, told};
 ghost use Rattle.line_sink.specs.Laws.{gained_nothing, gained_joins, stopped_behind, stopped_ends, gained_lost};
 
