@@ -1,5 +1,5 @@
 -- What an instance of a file without faults breaks.
-use Rattle.std.specs.Prelude.{◌≡◌, ℕ, IsTrue, List, All, Option, None}
+use Rattle.std.specs.Prelude.{◌≡◌, ℕ, IsTrue, List, All, None}
 use Rattle.ams_tree.specs.declared.concurrent.Concurrent.{Concurrent}
 use Rattle.ams_tree.specs.declared.concurrent.ConcurrentStatement.{ConcurrentStatement}
 use Rattle.ams_tree.specs.declared.concurrent.ConcurrentStatement.TheVariants as conc
