@@ -1,0 +1,3 @@
+pub mod Generics
+pub mod Ports
+pub mod Whole
