@@ -24,7 +24,7 @@ use Rattle.unit_meaning.specs.declared.site.Site.{Site}
 use Rattle.unit_meaning.specs.Settings.{Setting}
 use Rattle.unit_meaning.specs.Interfaces.{interface}
 use Rattle.unit_meaning.specs.Associations.{entity_in, instance_maps}
-use Rattle.unit_meaning.specs.Units.{start_of, opened, setting_of, statement_notes, judged_statement, judged_body, file_faults}
+use Rattle.unit_meaning.specs.Units.{start_of, opened, setting_of, statement_notes, judged_statement, judged_body, file_faults, type_fault, nature_fault}
 use Rattle.unit_meaning.specs.Walk.{Around, Entry, matched, actual_at, port_numbers, numbering, request_of, top_request}
 use Rattle.walk_laws.specs.Steps.{body_notes, around_body, IsEntered}
 use Rattle.alike_laws.specs.Alike.{HasNoFaults, OnlyTold, ReadingsFollow}
@@ -39,7 +39,7 @@ use Rattle.alike_units.proofs.Statements.{each_list_follows}
 use Rattle.alike_units.proofs.Faults.{none_is, told_is}
 use Rattle.alike_units.proofs.Units.{body_before, units_clean}
 use Rattle.alike_units.proofs.Whole.{start_outside}
-use Rattle.instance_laws.specs.Instances.{InnerFits, InstancesFollow}
+use Rattle.instance_laws.specs.Instances.{InnerFits, InstancesBreakNothing}
 
 -- ---- actuals that fit
 
@@ -182,8 +182,9 @@ top_fits units path x = go (entity_in units x)
     go (Some e) = no_ports 0 e.ports
     go None = refl
 
-pub instances_follow : InstancesFollow
-instances_follow readings parts declarations interfaces texts units h k =
+pub each_instance_follows : ReadingsFollow → PartsFollow → DeclarationsFollow → InterfacesFollow → (texts : List (List ℕ)) (units : List DesignUnit)
+    → type_fault texts units ≡ None → nature_fault texts units ≡ None → InstancesBreakNothing texts units
+each_instance_follows readings parts declarations interfaces texts units h k =
     let clean : UnitsAreClean texts units = units_clean readings parts declarations texts units (start_outside texts) (none_is (file_faults texts units) h k) in
     record {
       top = λ path x. top_fits units path x;
