@@ -27,7 +27,6 @@ use Rattle.name_scope.specs.declared.scope.Scope.{Scope}
 use Rattle.name_scope.specs.Scopes.{lookup, inside, with_name}
 use Rattle.elab_meaning.specs.declared.fault.Notes.{Notes}
 use Rattle.elab_meaning.specs.declared.part.Part.{Part}
-use Rattle.elab_meaning.specs.declared.part.Part.TheVariants.{Kept, Wrong, Hidden}
 use Rattle.elab_meaning.specs.Expressions.{static_in}
 use Rattle.elab_meaning.specs.Parts.{found_thing}
 use Rattle.unit_meaning.specs.declared.draft.Draft.{Draft}

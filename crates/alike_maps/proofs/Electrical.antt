@@ -1,10 +1,8 @@
 -- Terminals that are actuals of ports have the nature of their formals.
-use Rattle.std.proofs.Common.{◌≡◌, ◌+◌, ◌<◌, ℕ, zero, suc, arith, Bool, true, false, cond, if◌then◌else◌, List, [], ◌∷◌, ◌++◌, length, map, Option, Some, None, refl, sym, ap, subst, ◌∙◌}
+use Rattle.std.proofs.Common.{◌≡◌, ◌+◌, ℕ, zero, suc, arith, Bool, true, false, cond, if◌then◌else◌, List, [], ◌∷◌, ◌++◌, length, map, Option, Some, None, refl, sym, ap, subst, ◌∙◌}
 use Rattle.std.specs.Prelude.{nat_eq, nat_lt, not, ◌&&◌, position}
-use Rattle.std.specs.List.{slice_get, flat_map, list_any, position_or_len}
+use Rattle.std.specs.List.{slice_get, flat_map, position_or_len}
 use Rattle.std.specs.Map.{lookup as entry_of}
-use Rattle.std.proofs.lemmas.Bool.Decides.{nat_tests}
-use Rattle.ams_token.specs.declared.token.Place.{Place}
 use Rattle.ams_tree.specs.declared.expression.Name.{Name}
 use Rattle.ams_tree.specs.declared.expression.Attribute.{Attribute}
 use Rattle.ams_tree.specs.declared.expression.Attribute.TheOpen.{Expr-F}
@@ -20,7 +18,7 @@ use Rattle.name_scope.specs.declared.thing.Thing.{Thing}
 use Rattle.name_scope.specs.declared.thing.Thing.TheVariants as thing
 use Rattle.name_scope.specs.declared.scope.Scope.{Scope}
 use Rattle.name_scope.specs.Scopes.{lookup}
-use Rattle.elab_meaning.specs.declared.fault.Cause.TheVariants.{Unknown, NatureMismatch}
+use Rattle.elab_meaning.specs.declared.fault.Cause.TheVariants.{NatureMismatch}
 use Rattle.elab_meaning.specs.declared.fault.Notes.{Notes}
 use Rattle.elab_meaning.specs.declared.typed.Typed.{Typed}
 use Rattle.elab_meaning.specs.Notes.{noted}
@@ -30,7 +28,7 @@ use Rattle.unit_meaning.specs.declared.request.Actual.TheVariants as actual
 use Rattle.unit_meaning.specs.declared.request.Assigned.{Assigned}
 use Rattle.unit_meaning.specs.Settings.{Setting}
 use Rattle.unit_meaning.specs.Cases.{place_of}
-use Rattle.unit_meaning.specs.Associations.{entity_in, formal_at, port_natures, port_formals, nature_outside, compared, object_actual, other_actual, port_actual, number_of, association_place, assigned, associations, list_or, generic_formals, generic_actual, instance_maps}
+use Rattle.unit_meaning.specs.Associations.{entity_in, formal_at, port_natures, port_formals, nature_outside, compared, object_actual, other_actual, port_actual, number_of, association_place, assigned, associations, list_or, generic_formals, instance_maps}
 use Rattle.unit_meaning.specs.Walk.{formal_place, is_taken, with_match, matched_from, matched, closed_actual, actual_at, numbers, port_names, port_numbers}
 use Rattle.alike_laws.specs.Alike.{HasNoFaults, ReadingsFollow}
 use Rattle.alike_parts.specs.Follows.{BothRead}

@@ -1,5 +1,5 @@
 -- Associations of an instance, read twice.
-use Rattle.std.proofs.Common.{◌≡◌, ◌+◌, ℕ, zero, suc, arith, Bool, true, false, if◌then◌else◌, List, [], ◌∷◌, Option, Some, None, refl, sym, ap, subst, ◌∙◌}
+use Rattle.std.proofs.Common.{◌≡◌, ◌+◌, ℕ, arith, Bool, true, false, if◌then◌else◌, List, [], ◌∷◌, Option, Some, None, refl, sym, ap, subst, ◌∙◌}
 use Rattle.std.specs.Prelude.{nat_eq}
 use Rattle.std.proofs.lemmas.Bool.Decides.{nat_tests}
 use Rattle.ams_token.specs.declared.token.Place.{Place}
@@ -20,10 +20,8 @@ use Rattle.name_scope.specs.declared.thing.Thing.{Thing}
 use Rattle.name_scope.specs.declared.thing.Thing.TheVariants as thing
 use Rattle.name_scope.specs.declared.scope.Scope.{Scope}
 use Rattle.name_scope.specs.Scopes.{lookup}
-use Rattle.elab_meaning.specs.declared.fault.Cause.TheVariants.{Unknown, WrongType, NatureMismatch}
+use Rattle.elab_meaning.specs.declared.fault.Cause.TheVariants.{Unknown, NatureMismatch}
 use Rattle.elab_meaning.specs.declared.fault.Notes.{Notes}
-use Rattle.elab_meaning.specs.declared.part.Part.{Part}
-use Rattle.elab_meaning.specs.declared.part.Part.TheVariants.{Kept, Wrong, Hidden}
 use Rattle.elab_meaning.specs.declared.typed.Asked.{Asked}
 use Rattle.elab_meaning.specs.declared.typed.Context.{Context}
 use Rattle.elab_meaning.specs.declared.typed.StaticValue.{StaticValue}
@@ -38,9 +36,9 @@ use Rattle.unit_meaning.specs.declared.request.Actual.{Actual}
 use Rattle.unit_meaning.specs.Settings.{Setting, running}
 use Rattle.unit_meaning.specs.Cases.{place_of}
 use Rattle.unit_meaning.specs.Associations.{entity_in, formal_at, generic_formals, port_formals, has_no_value, formal_suits, generic_value, object_or, generic_actual, nature_outside, compared, object_actual, port_actual, association_place, associations, list_or, instance_maps}
-use Rattle.alike_laws.specs.Alike.{HasNoFaults, OnlyTold, changes, at_instance, terminal_nature, SameNature, AlikeThing, AlikeFound, AlikeScopes}
+use Rattle.alike_laws.specs.Alike.{HasNoFaults, OnlyTold, changes, at_instance, terminal_nature, SameNature, AlikeThing, AlikeFound}
 use Rattle.alike_parts.specs.Follows.{BothRead}
-use Rattle.alike_parts.proofs.Follows.{Follows, thing_notes, none_noted, told_wrong, told_closed, same_follows, on_follows, noted_follows, finished_follows}
+use Rattle.alike_parts.proofs.Follows.{Follows, none_noted, told_wrong, told_closed, same_follows, on_follows, noted_follows, finished_follows}
 use Rattle.alike_parts.proofs.Parts.{asked_follows, typed_follows}
 use Rattle.alike_maps.specs.Maps.{IsOutside}
 

@@ -6,7 +6,6 @@ use Rattle.ams_tree.specs.declared.declaration.Port.TheVariants as port
 use Rattle.ams_tree.specs.declared.design.DesignUnit.{DesignUnit}
 use Rattle.ams_tree.specs.declared.design.Entity.{Entity}
 use Rattle.ams_tree.specs.declared.expression.Name.{Name}
-use Rattle.name_scope.specs.declared.thing.Thing.{Thing}
 use Rattle.name_scope.specs.declared.thing.Thing.TheVariants as thing
 use Rattle.name_scope.specs.declared.scope.Scope.{Scope}
 use Rattle.name_scope.specs.Scopes.{lookup}

@@ -1,7 +1,6 @@
 -- Parts of statements, read twice.
 use Rattle.std.proofs.Common.{◌≡◌, ℕ, Bool, true, false, if◌then◌else◌, List, [], ◌∷◌, length, map, Option, Some, None, refl, subst}
 use Rattle.std.specs.Prelude.{nat_le}
-use Rattle.ams_token.specs.declared.token.Place.{Place}
 use Rattle.ams_tree.specs.declared.expression.Attribute.{Attribute, out-Attribute}
 use Rattle.ams_tree.specs.declared.expression.Attribute.TheOpen.{Expr-F, Attribute-F}
 use Rattle.ams_tree.specs.declared.expression.Expr.{Expr, out-Expr}
@@ -27,7 +26,7 @@ use Rattle.elab_meaning.specs.declared.typed.Context.{Context}
 use Rattle.elab_meaning.specs.declared.typed.Typed.{Typed}
 use Rattle.elab_meaning.specs.Parts.{both, found_thing}
 use Rattle.elab_meaning.specs.Expressions.{expression, arguments, put, static, static_in, asked}
-use Rattle.unit_meaning.specs.Settings.{Setting, running, typed, must_be, may_be, condition, listed}
+use Rattle.unit_meaning.specs.Settings.{Setting, running, typed, must_be, may_be, condition}
 use Rattle.unit_meaning.specs.Bare.{static_part, inside_attribute, wrong_name, level_at, threshold_at, watched_attribute, watched_name, watched_signal, sensitivity, quantity_at, selector_at, break_element, break_elements}
 use Rattle.unit_meaning.specs.Waveforms.{target, mechanism, element, waveform}
 use Rattle.unit_meaning.specs.Sequential.{assertion_parts}

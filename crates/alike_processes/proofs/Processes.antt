@@ -13,7 +13,7 @@ use Rattle.flat_design.specs.declared.objects.Process.{Process}
 use Rattle.name_scope.specs.declared.thing.Thing.{Thing}
 use Rattle.name_scope.specs.declared.thing.Thing.TheVariants as thing
 use Rattle.name_scope.specs.declared.scope.Scope.{Scope}
-use Rattle.name_scope.specs.Scopes.{declared_in, inside, with_name}
+use Rattle.name_scope.specs.Scopes.{declared_in, inside}
 use Rattle.elab_meaning.specs.declared.fault.Cause.TheVariants.{Duplicate, WrongType}
 use Rattle.elab_meaning.specs.declared.fault.Notes.{Notes}
 use Rattle.elab_meaning.specs.declared.part.Part.{Part}
@@ -23,18 +23,17 @@ use Rattle.elab_meaning.specs.Declarations.{duplicate, constant_of}
 use Rattle.elab_meaning.specs.Notes.{noted}
 use Rattle.elab_meaning.specs.Parts.{judged, both, closed}
 use Rattle.elab_meaning.specs.Subtypes.{valued}
-use Rattle.unit_meaning.specs.declared.draft.Draft.{Draft}
 use Rattle.unit_meaning.specs.Settings.{Setting, sealed}
 use Rattle.unit_meaning.specs.Cases.{beside}
 use Rattle.unit_meaning.specs.Sequential.{with_notes, body, statement_of}
 use Rattle.unit_meaning.specs.Bare.{sensitivity}
 use Rattle.unit_meaning.specs.Concurrent.{concurrent}
 use Rattle.unit_meaning.specs.Processes.{no_draft, top_spot, Declared, named, with_variable, fine_of, made_process, variable, constant, faulty, each_of, declaring_each, process_declaration, listened, end_name, process}
-use Rattle.alike_laws.specs.Alike.{HasNoFaults, OnlyTold, Reads, IsShown, AlikeThing, AlikeFound, AlikeScopes}
+use Rattle.alike_laws.specs.Alike.{HasNoFaults, IsShown, AlikeThing, AlikeFound, AlikeScopes}
 use Rattle.alike_laws.proofs.Scopes.{named_alike, inside_alike}
 use Rattle.alike_books.specs.Books.{PartsFollow}
 use Rattle.alike_parts.specs.Follows.{BothRead}
-use Rattle.alike_parts.proofs.Follows.{Follows, none_noted, back_closed, same_follows, on_follows, noted_follows, finished_follows}
+use Rattle.alike_parts.proofs.Follows.{Follows, none_noted, same_follows, on_follows, noted_follows, finished_follows}
 use Rattle.alike_parts.proofs.Parts.{sensitivity_follows}
 use Rattle.alike_parts.proofs.Statements.{each_follow}
 use Rattle.alike_bodies.proofs.Bodies.{each_body_follows}

@@ -1,10 +1,10 @@
 -- A fault is one that the check of types answers, or one that the check of natures does.
-use Rattle.std.proofs.Common.{◌≡◌, ℕ, ◌&&◌, Bool, true, false, if◌then◌else◌, List, [], ◌∷◌, Option, Some, None, refl, sym, subst}
+use Rattle.std.proofs.Common.{◌≡◌, ◌&&◌, Bool, true, false, if◌then◌else◌, List, [], ◌∷◌, Option, Some, None, refl, subst}
 use Rattle.std.specs.List.{fold, list_all}
 use Rattle.elab_meaning.specs.declared.fault.Cause.{Cause}
-use Rattle.elab_meaning.specs.declared.fault.Cause.TheVariants.{Unknown, WrongType, NotStatic, Duplicate, NatureMismatch, UnequalBranches}
+use Rattle.elab_meaning.specs.declared.fault.Cause.TheVariants.{NatureMismatch}
 use Rattle.elab_meaning.specs.declared.fault.Fault.{Fault}
-use Rattle.elab_meaning.specs.Notes.{is_before, first_of, if_told, first_fault, is_of_types, is_of_natures, is_of_instances}
+use Rattle.elab_meaning.specs.Notes.{is_before, if_told, first_fault, is_of_types, is_of_natures, is_of_instances}
 use Rattle.alike_laws.specs.Alike.{is_told}
 
 no_fault_is : (X : Type 0) (g : Fault) → Some g ≡ None → X

@@ -1,5 +1,5 @@
 -- The interface of an entity that breaks no rule: no name is a broken one, and its terminals have the nature outside of all units.
-use Rattle.std.proofs.Common.{◌≡◌, ◌<◌, ◌+◌, ℕ, zero, suc, arith, Bool, true, false, List, [], ◌∷◌, length, get_or, Option, Some, None, refl, sym, ap, subst, ◌∙◌}
+use Rattle.std.proofs.Common.{◌≡◌, ◌<◌, ℕ, zero, suc, Bool, true, false, List, [], ◌∷◌, length, Option, Some, None, refl, sym, ap, subst, ◌∙◌}
 use Rattle.std.specs.List.{fold}
 use Rattle.ams_token.specs.declared.token.Place.{Place}
 use Rattle.ams_tree.specs.declared.expression.Name.{Name}
@@ -34,7 +34,7 @@ use Rattle.alike_laws.specs.Alike.{HasNoFaults, IsShown, own_nature, is_faulty, 
 use Rattle.alike_laws.proofs.Scopes.{with_each, named_alike}
 use Rattle.alike_laws.proofs.Start.{start_alike}
 use Rattle.alike_books.specs.Books.{PartsFollow}
-use Rattle.alike_books.proofs.Before.{declared_before, each_before, each_of_before, declaring_before}
+use Rattle.alike_books.proofs.Before.{declared_before, each_of_before}
 use Rattle.alike_parts.proofs.Follows.{none_noted}
 use Rattle.alike_maps.specs.Maps.{NaturesStand}
 use Rattle.alike_units.proofs.Before.{signal_before, node_before, quantity_before, generics_before, ports_before}

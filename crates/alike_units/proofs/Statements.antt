@@ -1,5 +1,5 @@
 -- The statements of an architecture, read twice.
-use Rattle.std.proofs.Common.{◌≡◌, ℕ, IsTrue, List, [], ◌∷◌, Option}
+use Rattle.std.proofs.Common.{ℕ, IsTrue, List, [], ◌∷◌, Option}
 use Rattle.std.specs.List.{fold}
 use Rattle.ams_tree.specs.declared.expression.Name.{Name}
 use Rattle.ams_tree.specs.declared.concurrent.Concurrent.{Concurrent}

@@ -1,8 +1,7 @@
 -- The check of a file without faults.
-use Rattle.std.proofs.Common.{◌≡◌, ◌<◌, ℕ, arith, List, [], ◌∷◌, length, Option, Some, sym, subst, ◌∙◌}
+use Rattle.std.proofs.Common.{◌<◌, ℕ, arith, List, length, Option, sym, subst, ◌∙◌}
 use Rattle.name_scope.specs.declared.thing.Thing.{Thing}
 use Rattle.name_scope.specs.declared.thing.Thing.TheVariants as thing
-use Rattle.name_scope.specs.Scopes.{lookup}
 use Rattle.unit_meaning.specs.Units.{start_of, file_faults}
 use Rattle.alike_laws.specs.Alike.{AlikeThing, AlikeFound, AlikeScopes}
 use Rattle.alike_laws.proofs.Start.{start_alike}

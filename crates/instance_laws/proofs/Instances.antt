@@ -1,5 +1,5 @@
 -- An instance of a file without faults breaks no rule but such as the walk tests.
-use Rattle.std.proofs.Common.{◌≡◌, ◌+◌, ◌<◌, ℕ, zero, suc, arith, IsTrue, Bool, true, false, List, [], ◌∷◌, ◌++◌, length, replicate, All, Option, Some, None, refl, sym, ap, subst}
+use Rattle.std.proofs.Common.{◌≡◌, ◌+◌, ℕ, zero, suc, arith, IsTrue, Bool, true, false, List, [], ◌∷◌, ◌++◌, length, replicate, All, Option, Some, None, refl, sym, subst}
 use Rattle.std.specs.Prelude.{◌&&◌}
 use Rattle.std.specs.List.{fold}
 use Rattle.ams_tree.specs.declared.concurrent.Concurrent.{Concurrent}
@@ -13,7 +13,6 @@ use Rattle.ams_tree.specs.declared.design.DesignUnit.{DesignUnit}
 use Rattle.ams_tree.specs.declared.design.Entity.{Entity}
 use Rattle.ams_tree.specs.declared.expression.Name.{Name}
 use Rattle.name_scope.specs.declared.scope.Scope.{Scope}
-use Rattle.name_scope.specs.declared.thing.Thing.{Thing}
 use Rattle.name_scope.specs.declared.thing.Thing.TheVariants as thing
 use Rattle.elab_meaning.specs.declared.book.Book.{Book}
 use Rattle.elab_meaning.specs.declared.fault.Notes.{Notes}
@@ -25,14 +24,14 @@ use Rattle.unit_meaning.specs.declared.site.Site.{Site}
 use Rattle.unit_meaning.specs.Settings.{Setting}
 use Rattle.unit_meaning.specs.Interfaces.{interface}
 use Rattle.unit_meaning.specs.Associations.{entity_in, instance_maps}
-use Rattle.unit_meaning.specs.Units.{start_of, opened, setting_of, statement_notes, judged_statement, judged_body, file_faults}
-use Rattle.unit_meaning.specs.Walk.{Around, Entry, matched, actual_at, port_names, port_numbers, numbering, request_of, top_request}
+use Rattle.unit_meaning.specs.Units.{start_of, opened, setting_of, statement_notes, judged_statement, judged_body, file_faults, type_fault, nature_fault}
+use Rattle.unit_meaning.specs.Walk.{Around, Entry, matched, actual_at, port_numbers, numbering, request_of, top_request}
 use Rattle.walk_laws.specs.Steps.{body_notes, around_body, IsEntered}
 use Rattle.alike_laws.specs.Alike.{HasNoFaults, OnlyTold, ReadingsFollow}
 use Rattle.alike_books.specs.Books.{AlikeBooks, AlikeBehind, PartsFollow, DeclarationsFollow}
-use Rattle.alike_interfaces.specs.Interfaces.{IsElectrical, IsElectricalActual, NamesAreElectrical, PortIsElectrical, PortsAreElectrical, RequestIsElectrical, InterfacesFollow}
+use Rattle.alike_interfaces.specs.Interfaces.{IsElectrical, IsElectricalActual, NamesAreElectrical, PortsAreElectrical, RequestIsElectrical, InterfacesFollow}
 use Rattle.alike_parts.specs.Follows.{BothRead}
-use Rattle.alike_maps.specs.Maps.{IsOutside, is_electrical, some_electrical, names_fit, ports_fit, given_fits, entity_fits, actuals_fit}
+use Rattle.alike_maps.specs.Maps.{is_electrical, some_electrical, names_fit, ports_fit, given_fits, entity_fits, actuals_fit}
 use Rattle.alike_maps.proofs.Maps.{equal}
 use Rattle.alike_maps.proofs.Electrical.{actuals_are}
 use Rattle.alike_units.specs.Units.{ArchitectureIsClean, UnitsAreClean}
@@ -40,7 +39,7 @@ use Rattle.alike_units.proofs.Statements.{each_list_follows}
 use Rattle.alike_units.proofs.Faults.{none_is, told_is}
 use Rattle.alike_units.proofs.Units.{body_before, units_clean}
 use Rattle.alike_units.proofs.Whole.{start_outside}
-use Rattle.instance_laws.specs.Instances.{InnerFits, InstancesBreakNothing, InstancesFollow}
+use Rattle.instance_laws.specs.Instances.{InnerFits, InstancesBreakNothing}
 
 -- ---- actuals that fit
 
@@ -183,8 +182,9 @@ top_fits units path x = go (entity_in units x)
     go (Some e) = no_ports 0 e.ports
     go None = refl
 
-pub instances_follow : InstancesFollow
-instances_follow readings parts declarations interfaces texts units h k =
+pub each_instance_follows : ReadingsFollow → PartsFollow → DeclarationsFollow → InterfacesFollow → (texts : List (List ℕ)) (units : List DesignUnit)
+    → type_fault texts units ≡ None → nature_fault texts units ≡ None → InstancesBreakNothing texts units
+each_instance_follows readings parts declarations interfaces texts units h k =
     let clean : UnitsAreClean texts units = units_clean readings parts declarations texts units (start_outside texts) (none_is (file_faults texts units) h k) in
     record {
       top = λ path x. top_fits units path x;

@@ -1,5 +1,5 @@
 -- What an instance of a file without faults breaks.
-use Rattle.std.specs.Prelude.{◌≡◌, ℕ, IsTrue, List, All, Option, None}
+use Rattle.std.specs.Prelude.{◌≡◌, ℕ, IsTrue, List, All, None}
 use Rattle.ams_tree.specs.declared.concurrent.Concurrent.{Concurrent}
 use Rattle.ams_tree.specs.declared.concurrent.ConcurrentStatement.{ConcurrentStatement}
 use Rattle.ams_tree.specs.declared.concurrent.ConcurrentStatement.TheVariants as conc
@@ -12,9 +12,7 @@ use Rattle.unit_meaning.specs.declared.site.Site.{Site}
 use Rattle.unit_meaning.specs.Units.{type_fault, nature_fault}
 use Rattle.unit_meaning.specs.Walk.{Around, Entry, request_of, top_request}
 use Rattle.walk_laws.specs.Steps.{body_notes, around_body, IsEntered}
-use Rattle.alike_laws.specs.Alike.{HasNoFaults, ReadingsFollow}
-use Rattle.alike_books.specs.Books.{PartsFollow, DeclarationsFollow}
-use Rattle.alike_interfaces.specs.Interfaces.{InterfacesFollow}
+use Rattle.alike_laws.specs.Alike.{HasNoFaults}
 use Rattle.alike_maps.specs.Maps.{actuals_fit}
 
 -- whatever the design is so far, terminals among the actuals of an instance have the natures of their ports
@@ -30,8 +28,6 @@ pub record InstancesBreakNothing (texts : List (List ℕ)) (units : List DesignU
   pub fine : (r : Request) (s : Site) (e : Entity) (a : Architecture) (entry : Entry) → IsTrue (actuals_fit units r) → IsEntered texts units r s e a entry
       → HasNoFaults (body_notes texts units a entry s)
 
--- of a file in which the check of types and that of natures find no fault
+-- in a file in which the check of types and that of natures find no fault
 abbrev pub InstancesFollow : Type 0
-InstancesFollow =
-    ReadingsFollow → PartsFollow → DeclarationsFollow → InterfacesFollow
-    → (texts : List (List ℕ)) (units : List DesignUnit) → type_fault texts units ≡ None → nature_fault texts units ≡ None → InstancesBreakNothing texts units
+InstancesFollow = (texts : List (List ℕ)) (units : List DesignUnit) → type_fault texts units ≡ None → nature_fault texts units ≡ None → InstancesBreakNothing texts units

@@ -1,4 +1,4 @@
-use Rattle.instance_laws.proofs.Instances.{instances_follow}
+use Rattle.instance_laws.proofs.Whole.{instances_follow}
 use Rattle.instance_laws.proofs.instances_follow.Goals as goal
 
 pub returns : goal.returns
