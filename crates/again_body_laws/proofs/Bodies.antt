@@ -29,7 +29,7 @@ use Rattle.elab_meaning.specs.Parts.{judged, both}
 use Rattle.unit_meaning.specs.declared.draft.Draft.{Draft}
 use Rattle.unit_meaning.specs.declared.draft.Seen.{Seen}
 use Rattle.unit_meaning.specs.declared.draft.Spot.{Spot}
-use Rattle.unit_meaning.specs.Settings.{Setting, running, typed, must_be, given, condition, paired, ahead}
+use Rattle.unit_meaning.specs.Settings.{Setting, running, typed, must_be, given, paired, ahead}
 use Rattle.unit_meaning.specs.Waveforms.{target, assignment}
 use Rattle.unit_meaning.specs.Cases.{choices, nothing_seen, covers}
 use Rattle.unit_meaning.specs.Sequential.{with_notes, with_parameter, with_wait, way_to, looping, within_loop, variable_assignment, break_statement, leaving, wait_statement, assertion, report, made_branch, made_if, made_alternative, made_case, made_loop, made_for, Reads, CaseReads, BranchReads, body, branch_step, branches, otherwise, alternative_step, alternatives, kind_known, loop_statement, driving, signal_statement, seq_step, statement_of}

@@ -1,11 +1,11 @@
 -- Parts of one form, and readings that find such.
-use Rattle.std.proofs.Common.{◌≡◌, Bool, true, false, List, [], ◌∷◌, Option, Some, None, refl, sym, ap, subst}
+use Rattle.std.proofs.Common.{◌≡◌, Bool, true, false, List, [], ◌∷◌, refl, ap, subst}
 use Rattle.ams_token.specs.declared.token.Place.{Place}
 use Rattle.elab_meaning.specs.declared.fault.Cause.TheVariants.{WrongType}
 use Rattle.elab_meaning.specs.declared.fault.Notes.{Notes}
 use Rattle.elab_meaning.specs.declared.part.Part.{Part}
 use Rattle.elab_meaning.specs.declared.part.Part.TheVariants.{Kept, Wrong, Hidden}
-use Rattle.elab_meaning.specs.Parts.{part_of, where_true, judged, both, closed}
+use Rattle.elab_meaning.specs.Parts.{where_true, judged, both, closed}
 use Rattle.unit_meaning.specs.Settings.{ahead, listed, sealed, finished}
 use Rattle.again_laws.specs.Again.{BreaksAlike}
 use Rattle.again_laws.proofs.Breaks.{breaks_same, breaks_noted, breaks_on}

@@ -1,8 +1,7 @@
 -- Parts of statements, read twice.
-use Rattle.std.proofs.Common.{◌≡◌, ℕ, Bool, true, false, List, [], ◌∷◌, map, Option, Some, None, refl, sym, ap, subst}
-use Rattle.std.specs.Prelude.{nat_eq, ◌&&◌}
+use Rattle.std.proofs.Common.{◌≡◌, ℕ, List, [], ◌∷◌, map, Option, Some, None, refl, sym, ap, subst}
+use Rattle.std.specs.Prelude.{nat_eq}
 use Rattle.std.specs.List.{list_any}
-use Rattle.ams_token.specs.declared.token.Place.{Place}
 use Rattle.ams_tree.specs.declared.expression.Attribute.{Attribute, out-Attribute}
 use Rattle.ams_tree.specs.declared.expression.Attribute.TheOpen.{Expr-F, Attribute-F}
 use Rattle.ams_tree.specs.declared.expression.Expr.{Expr, out-Expr}
@@ -36,7 +35,7 @@ use Rattle.elab_meaning.specs.declared.typed.Asked.{Asked}
 use Rattle.elab_meaning.specs.declared.typed.Context.{Context}
 use Rattle.elab_meaning.specs.declared.typed.Typed.{Typed}
 use Rattle.elab_meaning.specs.Kinds.{same_kind}
-use Rattle.elab_meaning.specs.Parts.{part_of, where_true, judged, both, found_thing}
+use Rattle.elab_meaning.specs.Parts.{part_of, judged, both, found_thing}
 use Rattle.elab_meaning.specs.Subtypes.{suits}
 use Rattle.elab_meaning.specs.Expressions.{expression, arguments, put, static}
 use Rattle.unit_meaning.specs.Settings.{Setting, running, typed, value_of, of_kind, must_be, given, may_be, condition, listed, paired}
@@ -47,7 +46,7 @@ use Rattle.again_laws.specs.Again.{BreaksAlike}
 use Rattle.again_laws.proofs.Breaks.{breaks_same, breaks_noted, breaks_on, breaks_watched}
 use Rattle.again_laws.proofs.Steps.{as_read, LikeTyped, Like}
 use Rattle.again_laws.proofs.Reading.{expression_like, static_like}
-use Rattle.again_part_laws.proofs.Like.{PartLike, Any, Same, Formed, like_self, like_equal, equal_like, judged_like, both_like, formed_where, ReadsAs, finished_as, listed_as}
+use Rattle.again_part_laws.proofs.Like.{PartLike, Any, Same, Formed, like_self, like_equal, equal_like, judged_like, both_like, formed_where, ReadsAs, listed_as}
 
 -- ---- names
 

@@ -42,19 +42,19 @@ use Rattle.elab_meaning.specs.Notes.{noted}
 use Rattle.elab_meaning.specs.Parts.{part_of, where_true, judged, both}
 use Rattle.elab_meaning.specs.Expressions.{static, static_in}
 use Rattle.unit_meaning.specs.declared.draft.Seen.{Seen}
-use Rattle.unit_meaning.specs.Settings.{Setting, equating, choosing, typed, must_be, condition, listed, paired, ahead, finished}
+use Rattle.unit_meaning.specs.Settings.{Setting, equating, choosing, typed, must_be, condition, listed, paired, ahead}
 use Rattle.unit_meaning.specs.Bare.{sensitivity, break_elements}
-use Rattle.unit_meaning.specs.Waveforms.{target, mechanism, waveform, assigning}
+use Rattle.unit_meaning.specs.Waveforms.{target, mechanism, waveform}
 use Rattle.unit_meaning.specs.Cases.{place_of, choosing_value, one_choice, seen_or, beside, choices, nothing_seen, covers}
 use Rattle.unit_meaning.specs.Sequential.{text_or, assertion_parts, kind_known}
 use Rattle.unit_meaning.specs.Processes.{Wave, made_wave, wave, conditional, assigning_process, concurrent_assignment, asserting, concurrent_assertion, breaking, concurrent_break}
-use Rattle.unit_meaning.specs.Simultaneous.{pair_of, pair, pairs, single, simple, same_lengths, first_length, compared, arm_of, if_arm, last_arm, chosen_if, if_lengths, if_statement, case_arm_of, case_arms, case_lengths, chosen_case, case_statement}
+use Rattle.unit_meaning.specs.Simultaneous.{pair_of, pair, pairs, same_lengths, first_length, compared, arm_of, if_arm, last_arm, chosen_if, if_lengths, if_statement, case_arm_of, case_arms, case_lengths, chosen_case, case_statement}
 use Rattle.again_laws.specs.Again.{BreaksAlike}
 use Rattle.again_laws.proofs.Breaks.{breaks_same, breaks_noted, breaks_on}
 use Rattle.again_laws.proofs.Steps.{as_read, LikeTyped}
 use Rattle.again_part_laws.specs.Parts.{PartsBreakAlike}
 use Rattle.again_part_laws.proofs.Like.{PartLike, Any, Same, Formed, like_self, like_equal, equal_like, judged_like, both_like, formed_where, ReadsAs, finished_as, listed_as}
-use Rattle.again_part_laws.proofs.Parts.{of_typed, typed_as, must_as, condition_as, asked_as, sensitivity_as, breaks_as, assertion_as, target_as, mechanism_as, waveform_as}
+use Rattle.again_part_laws.proofs.Parts.{typed_as, must_as, condition_as, asked_as, sensitivity_as, breaks_as, assertion_as, target_as, mechanism_as, waveform_as}
 
 -- the type of an expression, where it keeps the rules
 pub same_known : (p q : Part Typed) → PartLike Typed LikeTyped p q → kind_known p ≡ kind_known q

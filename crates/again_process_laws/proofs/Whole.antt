@@ -1,12 +1,5 @@
 -- Statements of an architecture, read twice.
-use Rattle.std.specs.Prelude.{List, Option}
-use Rattle.ams_tree.specs.declared.concurrent.ConcurrentStatement.{ConcurrentStatement}
 use Rattle.ams_tree.specs.declared.concurrent.ConcurrentStatement.TheVariants as conc
-use Rattle.ams_tree.specs.declared.design.DesignUnit.{DesignUnit}
-use Rattle.ams_tree.specs.declared.expression.Name.{Name}
-use Rattle.name_scope.specs.declared.scope.Scope.{Scope}
-use Rattle.elab_meaning.specs.declared.fault.Notes.{Notes}
-use Rattle.unit_meaning.specs.Settings.{Setting}
 use Rattle.again_part_laws.proofs.Statements.{parts_break_alike}
 use Rattle.again_process_laws.specs.Statements.{StatementsBreakAlike}
 use Rattle.again_process_laws.proofs.Processes.{process_again}
