@@ -1,19 +1,14 @@
 -- The choices of cases in processes, and the values of declarations.
 use Rattle.std.proofs.Common.{◌≡◌, ℕ, Bool, true, List, [], ◌∷◌, map, Option, Some, None, IfSome, refl, sym, ap, ◌∙◌, subst}
-use Rattle.std.specs.List.{flat_map}
-use Rattle.ams_tree.specs.declared.declaration.SubtypeIndication.{SubtypeIndication}
 use Rattle.ams_tree.specs.declared.expression.Expr.{Expr}
 use Rattle.ams_tree.specs.declared.sequential.Alternative.{Alternative as WrittenAlternative, out-Alternative}
 use Rattle.ams_tree.specs.declared.sequential.Seq.TheFolds.{fold-roll-Alternative}
-use Rattle.ams_tree.specs.declared.sequential.Seq.TheViews.{roll-Alternative, roll-out-Alternative}
-use Rattle.ams_value.specs.declared.value_type.ValueType.{ValueType}
+use Rattle.ams_tree.specs.declared.sequential.Seq.TheViews.{roll-out-Alternative}
 use Rattle.ams_value.specs.declared.value_type.ValueType.TheVariants as t
-use Rattle.flat_expr.specs.declared.statement.Alternative.{Alternative}
 use Rattle.flat_expr.specs.declared.statement.Statement.{Statement}
 use Rattle.flat_design.specs.declared.objects.Objects.{Objects}
 use Rattle.flat_design.specs.declared.objects.Process.{Process}
-use Rattle.name_scope.specs.declared.thing.Kind.{Kind}
-use Rattle.name_scope.specs.declared.thing.Kind.TheVariants.{Of, Vector}
+use Rattle.name_scope.specs.declared.thing.Kind.TheVariants.{Of}
 use Rattle.name_scope.specs.declared.thing.Thing.{Thing}
 use Rattle.name_scope.specs.declared.thing.Thing.TheVariants as thing
 use Rattle.name_scope.specs.declared.scope.Scope.{Scope}
@@ -27,29 +22,27 @@ use Rattle.elab_meaning.specs.declared.typed.Valued.{Valued}
 use Rattle.elab_meaning.specs.Expressions.{expression}
 use Rattle.elab_meaning.specs.Parts.{kept, part_of}
 use Rattle.elab_meaning.specs.Subtypes.{valued}
-use Rattle.unit_meaning.specs.declared.draft.Draft.{Draft}
-use Rattle.unit_meaning.specs.declared.draft.Spot.{Spot}
-use Rattle.unit_meaning.specs.Settings.{Setting, running, choosing, typed}
+use Rattle.unit_meaning.specs.Settings.{Setting, running, typed}
 use Rattle.unit_meaning.specs.Cases.{nothing_seen, covers}
 use Rattle.unit_meaning.specs.Sequential.{Reads, CaseReads, BranchReads, alternatives, seq_step, alternative_step, branch_step, statement_of}
-use Rattle.design_rules.specs.Types.{sizes_of, equation_scope, process_scope}
+use Rattle.design_rules.specs.Types.{sizes_of, process_scope}
 use Rattle.part_laws.specs.Parts.{OnKept}
-use Rattle.scope_laws.specs.Holds.{HasNoFaults, ScopeHolds}
+use Rattle.scope_laws.specs.Holds.{HasNoFaults}
 use Rattle.asked_laws.proofs.Asked.{asked_values_are_known}
 use Rattle.subtype_laws.specs.Subtypes.{ValuedFits}
 use Rattle.subtype_laws.proofs.Growth.{grows_valued}
 use Rattle.subtype_laws.proofs.Values.{subtypes_fit}
-use Rattle.choice_laws.specs.Choices.{AsksValues, CountsLiterals, CountsOf, WrittenAlternative as ReadAlternative, BodyGrows, EachGrows, HasChoices}
+use Rattle.choice_laws.specs.Choices.{AsksValues, CountsLiterals, CountsOf, WrittenAlternative as ReadAlternative, EachGrows, HasChoices}
 use Rattle.choice_laws.proofs.Cases.{choices_are_right}
 use Rattle.kind_laws.proofs.Counted.{kinds_are_counted}
 use Rattle.draft_laws.specs.Drafts.{alternative_of}
 use Rattle.draft_laws.proofs.Drafts.{all_grow}
-use Rattle.body_laws.specs.Bodies.{Keeps, ScopeStands, CasesFit}
+use Rattle.body_laws.specs.Bodies.{Keeps, CasesFit}
 use Rattle.made_laws.specs.Made.{DeclaredFits, ValuesFit}
 use Rattle.declared_type_laws.specs.Types.{TypeKeeps}
 use Rattle.declared_type_laws.proofs.Whole.{types_are_declared}
 use Rattle.architecture_laws.specs.Counts.{is_counted, has_counted}
-use Rattle.architecture_laws.proofs.Counts.{kind_counts, names_count}
+use Rattle.architecture_laws.proofs.Counts.{names_count}
 
 -- ---- alternatives as they are written
 

@@ -1,11 +1,8 @@
 -- Counts of literals, as far as types are declared.
-use Rattle.std.proofs.Common.{◌≡◌, ◌<◌, ℕ, zero, suc, Bool, true, List, [], ◌∷◌, ◌++◌, length, map, Option, Some, None, IfSome, refl, sym, ap, ◌∙◌, subst, arith}
+use Rattle.std.proofs.Common.{◌≡◌, ◌<◌, ℕ, zero, suc, true, List, [], ◌∷◌, ◌++◌, length, map, Option, Some, None, IfSome, refl, sym, ap, ◌∙◌, arith}
 use Rattle.std.specs.Prelude.{nat_eq, nat_lt, get_or}
 use Rattle.std.specs.List.{slice_get}
 use Rattle.std.proofs.lemmas.Bool.Decides.{nat_tests}
-use Rattle.ams_tree.specs.declared.declaration.SubtypeIndication.{SubtypeIndication}
-use Rattle.ams_tree.specs.declared.expression.Expr.{Expr}
-use Rattle.ams_value.specs.declared.val.Val.{Val}
 use Rattle.ams_value.specs.declared.value_type.ValueType.TheVariants as t
 use Rattle.ams_value.specs.Types.{type_of}
 use Rattle.flat_design.specs.declared.objects.Enumeration.{Enumeration}
@@ -16,7 +13,6 @@ use Rattle.name_scope.specs.declared.thing.Thing.{Thing}
 use Rattle.name_scope.specs.declared.thing.Thing.TheVariants as thing
 use Rattle.name_scope.specs.declared.scope.Scope.{Scope}
 use Rattle.name_scope.specs.Scopes.{lookup}
-use Rattle.unit_meaning.specs.Settings.{Setting}
 use Rattle.unit_meaning.specs.Cases.{literal_count}
 use Rattle.design_rules.specs.Types.{sizes_of}
 use Rattle.reading_laws.specs.Growing.{Extends}
@@ -24,7 +20,7 @@ use Rattle.choice_laws.specs.Choices.{CountsLiterals}
 use Rattle.kind_laws.specs.Kinds.{ThingCounts}
 use Rattle.body_laws.specs.Bodies.{Keeps}
 use Rattle.declared_type_laws.specs.Types.{is_declared, has_declared, NamesHaveDeclared}
-use Rattle.architecture_laws.specs.Counts.{is_counted, has_counted, NamesCount}
+use Rattle.architecture_laws.specs.Counts.{is_counted, has_counted}
 
 same_is : (a b : ℕ) → nat_eq a b ≡ true → a ≡ b
 same_is a b h = grind (arith, nat_tests)

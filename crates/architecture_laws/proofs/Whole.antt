@@ -1,9 +1,7 @@
 -- The scope of an architecture at an instance.
-use Rattle.std.proofs.Common.{◌≡◌, ◌<◌, ℕ, zero, suc, Bool, true, List, [], ◌∷◌, length, Option, Some, None, IfSome, refl, subst}
-use Rattle.std.specs.Prelude.{unwrap_or}
-use Rattle.std.specs.List.{All, slice_get}
+use Rattle.std.proofs.Common.{◌≡◌, ◌<◌, ℕ, zero, suc, List, [], ◌∷◌, length, Option, Some, IfSome, refl, subst}
+use Rattle.std.specs.List.{All}
 use Rattle.std.proofs.lemmas.List.Elements.{All-nil, All-head, All-tail}
-use Rattle.ams_token.specs.declared.tokens.Tokens.{Tokens}
 use Rattle.ams_tree.specs.declared.design.Architecture.{Architecture}
 use Rattle.ams_tree.specs.declared.design.Entity.{Entity}
 use Rattle.flat_design.specs.declared.objects.Objects.{Objects}

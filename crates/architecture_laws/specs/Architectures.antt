@@ -1,6 +1,5 @@
 -- The scope of an architecture at an instance, as the laws of its statements ask it.
 use Rattle.std.specs.Prelude.{◌≡◌, ◌<◌, ℕ, List, [], length, Option, Some, IfSome}
-use Rattle.std.specs.List.{All}
 use Rattle.ams_tree.specs.declared.concurrent.ConcurrentStatement.{ConcurrentStatement}
 use Rattle.ams_tree.specs.declared.design.Architecture.{Architecture}
 use Rattle.ams_tree.specs.declared.design.Entity.{Entity}

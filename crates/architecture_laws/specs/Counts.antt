@@ -1,5 +1,5 @@
 -- Enumeration types that have as many literals where they are read as in the design.
-use Rattle.std.specs.Prelude.{◌≡◌, ℕ, nat_eq, Bool, true, List, get_or, IfSome}
+use Rattle.std.specs.Prelude.{ℕ, nat_eq, Bool, true, List, get_or, IfSome}
 use Rattle.std.specs.List.{slice_get}
 use Rattle.ams_value.specs.declared.value_type.ValueType.TheVariants.{Enumeration as EnumerationType}
 use Rattle.ams_value.specs.Types.{type_of}

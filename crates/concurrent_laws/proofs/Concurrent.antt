@@ -1,5 +1,4 @@
 -- What concurrent and simultaneous statements make, by kind.
-use Rattle.std.proofs.Common.{◌≡◌, Bool, List, Option}
 use Rattle.ams_tree.specs.declared.concurrent.ConcurrentStatement.TheVariants as conc
 use Rattle.flat_design.specs.declared.objects.Equation.{Equation}
 use Rattle.flat_design.specs.declared.objects.Objects.{Objects}
