@@ -25,6 +25,7 @@ none_more (x ∷ xs) ys (z ∷ zs) h k = none_more xs ys zs (tail_is z x zs (xs 
     rest : List Fault → List Fault
     rest [] = []
     rest (y ∷ more) = more
+
     tail_is : (a b : Fault) (us vs : List Fault) → a ∷ us ≡ b ∷ vs → us ≡ vs
     tail_is a b us vs e = ap rest e
 

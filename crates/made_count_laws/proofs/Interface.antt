@@ -74,6 +74,7 @@ range_before (Some d) a n f = go a.actual f
     choice : (b : Bool) → NoFaults (if b then n else noted a.place WrongType n) → NoFaults n
     choice true g = g
     choice false g = before_noted a.place WrongType n g
+
     go : (x : Actual) → NoFaults (elim x as (λ y. Notes) [ actual.Value k v ↦ (if holds_known d.subtype.constraint v then n else noted a.place WrongType n) | actual.Open ↦ n | actual.Object z w ↦ n ]) → NoFaults n
     go (actual.Value k v) g = choice (holds_known d.subtype.constraint v) g
     go actual.Open g = g

@@ -46,9 +46,11 @@ module _ (A : Type 0) (same : A → A → Bool) (alike : (a b c : A) → same a 
       other : (c : Bool) → same x y ≡ true → same z y ≡ c → c ≡ false
       other true is e = true_is_false (sym (alike x z y is e) ∙ d)
       other false is e = refl
+
       further : (b : Bool) → (StandsIn ys z → StandsIn (without x ys) z) → (b || list_any (same z) ys) ≡ true → (b || list_any (same z) (without x ys)) ≡ true
       further true rest k = refl
       further false rest k = rest k
+
       go : (b : Bool) → (StandsIn ys z → StandsIn (without x ys) z) → same x y ≡ b → StandsIn (if b then ys else y ∷ without x ys) z
       go true rest is = one_of (same z y) (list_any (same z) ys) h (other (same z y) is refl)
       go false rest is = further (same z y) rest h
