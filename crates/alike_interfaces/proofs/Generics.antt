@@ -1,14 +1,12 @@
 -- Generics.
-use Rattle.std.proofs.Common.{◌≡◌, ◌+◌, ℕ, Bool, true, false, if◌then◌else◌, List, [], ◌∷◌, length, Option, Some, None, refl, sym, ap, subst, ◌∙◌}
+use Rattle.std.proofs.Common.{◌≡◌, ◌+◌, ℕ, Bool, true, false, if◌then◌else◌, List, [], ◌∷◌, length, Option, Some, None, refl, subst}
 use Rattle.std.specs.List.{fold}
-use Rattle.ams_token.specs.declared.token.Place.{Place}
 use Rattle.ams_tree.specs.declared.expression.Name.{Name}
 use Rattle.ams_tree.specs.declared.expression.Expr.{Expr}
 use Rattle.ams_tree.specs.declared.declaration.Generic.{Generic}
 use Rattle.ams_tree.specs.declared.declaration.SubtypeIndication.{SubtypeIndication}
 use Rattle.name_scope.specs.declared.scope.Scope.{Scope}
 use Rattle.name_scope.specs.declared.thing.Subtype.{Subtype}
-use Rattle.name_scope.specs.declared.thing.Thing.{Thing}
 use Rattle.name_scope.specs.declared.thing.Thing.TheVariants as thing
 use Rattle.elab_meaning.specs.declared.book.Book.{Book}
 use Rattle.elab_meaning.specs.declared.fault.Cause.TheVariants.{WrongType}
@@ -17,16 +15,16 @@ use Rattle.elab_meaning.specs.declared.part.Part.{Part}
 use Rattle.elab_meaning.specs.declared.part.Part.TheVariants.{Kept, Wrong, Hidden}
 use Rattle.elab_meaning.specs.declared.typed.Valued.{Valued}
 use Rattle.elab_meaning.specs.Notes.{noted}
-use Rattle.elab_meaning.specs.Parts.{kept, judged, closed}
+use Rattle.elab_meaning.specs.Parts.{kept, closed}
 use Rattle.elab_meaning.specs.Subtypes.{subtype, holds_known}
-use Rattle.elab_meaning.specs.Declarations.{declared, constant_of, with_notes, each, faulty, each_of, declaring_each}
+use Rattle.elab_meaning.specs.Declarations.{declared, constant_of, with_notes, each, each_of}
 use Rattle.unit_meaning.specs.declared.request.Actual.{Actual}
 use Rattle.unit_meaning.specs.declared.request.Actual.TheVariants as actual
 use Rattle.unit_meaning.specs.declared.request.Assigned.{Assigned}
 use Rattle.unit_meaning.specs.Interfaces.{first_place, unvalued, generic_default, generic_name, generic}
 use Rattle.unit_meaning.specs.Walk.{range_notes, kind_suits, actual_value, default_thing, generic_entered, if_some, generic_names, is_there, generics_entered, actual_at}
 use Rattle.alike_laws.specs.Alike.{HasNoFaults, OnlyTold, Reads, IsShown, AlikeThing, AlikeScopes}
-use Rattle.alike_laws.proofs.Notes.{no_fault, told_noted, follows_on}
+use Rattle.alike_laws.proofs.Notes.{told_noted}
 use Rattle.alike_books.specs.Books.{AlikeBooks}
 use Rattle.alike_books.proofs.Before.{RuleBefore, valued_before, subtype_before, closed_before, declared_before, each_before, declaring_before, each_of_before}
 use Rattle.alike_books.proofs.Parts.{shown_judged, subtype_reads, valued_reads}
@@ -73,6 +71,7 @@ told_range (Some d) a n o = go a.actual
     test : (b : Bool) → OnlyTold (if b then n else noted a.place WrongType n)
     test true = o
     test false = told_noted a.place n o
+
     go : (x : Actual) → OnlyTold (elim x as (λ x. Notes) [ actual.Value k v ↦ (if holds_known d.subtype.constraint v then n else noted a.place WrongType n) | actual.Open ↦ n | actual.Object x t ↦ n ])
     go (actual.Value k v) = test (holds_known d.subtype.constraint v)
     go actual.Open = o
@@ -103,10 +102,12 @@ module _ (natures : List ℕ) where
       where
         made : Book
         made = declared (actual_value d a.actual) x (with_notes (range_notes d a i.notes) i)
+
         alike : AlikeBooks natures (generic_name v x c) (declared (actual_value d a.actual) x (with_notes (range_notes d a i.notes) i))
         alike =
             declared_alike natures (thing.Constant v.subtype None) (actual_value d a.actual) x c (with_notes (range_notes d a i.notes) i) (value_alike v.subtype d a.actual) n
             (record { scopes = h.scopes; count = h.count; some = h.some; told = told_range d a i.notes h.told })
+
         go : (b : Bool) → (if b then Some (declared (actual_value d a.actual) x (with_notes (range_notes d a i.notes) i)) else None) ≡ Some j → AlikeBooks natures (generic_name v x c) j
         go true e = some_is Book (AlikeBooks natures (generic_name v x c)) (declared (actual_value d a.actual) x (with_notes (range_notes d a i.notes) i)) j alike e
         go false e = absurd (cc)
@@ -114,6 +115,7 @@ module _ (natures : List ℕ) where
       where
         alike : AlikeBooks natures (generic_name v x c) (declared (default_thing d) x i)
         alike = declared_alike natures (thing.Constant v.subtype None) (default_thing d) x c i (default_alike v.subtype d) n h
+
         go : (b : Bool) → generic_entered d b None x i ≡ Some j → AlikeBooks natures (generic_name v x c) j
         go true e = some_is Book (AlikeBooks natures (generic_name v x c)) (declared (default_thing d) x i) j alike e
         go false e = absurd (cc)

@@ -1,5 +1,5 @@
 -- Ports.
-use Rattle.std.proofs.Common.{◌≡◌, ◌<◌, ◌+◌, ℕ, ℤ, pos, Bool, true, false, if◌then◌else◌, List, [], ◌∷◌, ◌++◌, length, map, Option, Some, None, refl, sym, ap, subst, ◌∙◌, arith}
+use Rattle.std.proofs.Common.{◌≡◌, ◌<◌, ◌+◌, ℕ, pos, Bool, true, false, if◌then◌else◌, List, [], ◌∷◌, ◌++◌, length, Option, Some, None, refl, sym, ◌∙◌}
 use Rattle.std.specs.Prelude.{not, ◌&&◌}
 use Rattle.std.specs.List.{fold}
 use Rattle.ams_token.specs.declared.token.Place.{Place}
@@ -8,7 +8,6 @@ use Rattle.ams_tree.specs.declared.declaration.Mode.{Mode}
 use Rattle.ams_tree.specs.declared.declaration.Port.{Port}
 use Rattle.ams_tree.specs.declared.declaration.Port.TheVariants as port
 use Rattle.ams_value.specs.declared.value_type.ValueType.TheVariants as t
-use Rattle.flat_design.specs.declared.objects.Terminal.{Terminal}
 use Rattle.flat_design.specs.declared.objects.Terminal.TheVariants as terminal
 use Rattle.flat_design.specs.declared.objects.QuantityKind.TheVariants as flat
 use Rattle.name_scope.specs.declared.thing.Access.{Access}
@@ -20,26 +19,20 @@ use Rattle.name_scope.specs.declared.thing.Thing.{Thing}
 use Rattle.name_scope.specs.declared.thing.Thing.TheVariants as thing
 use Rattle.name_scope.specs.Scopes.{lookup}
 use Rattle.elab_meaning.specs.declared.book.Book.{Book}
-use Rattle.elab_meaning.specs.declared.fault.Notes.{Notes}
-use Rattle.elab_meaning.specs.declared.part.Part.{Part}
-use Rattle.elab_meaning.specs.declared.part.Part.TheVariants.{Kept, Wrong, Hidden}
 use Rattle.elab_meaning.specs.declared.typed.Valued.{Valued}
 use Rattle.elab_meaning.specs.Kinds.{same_kind}
-use Rattle.elab_meaning.specs.Parts.{kept, judged, closed}
-use Rattle.elab_meaning.specs.Subtypes.{subtype, valued}
-use Rattle.elab_meaning.specs.Declarations.{declared, with_notes, with_signal, with_quantity, each, faulty, each_of, declaring_each, signal_of, node, nature_named, quantity_of, free_of}
+use Rattle.elab_meaning.specs.Subtypes.{valued}
+use Rattle.elab_meaning.specs.Declarations.{declared, with_signal, with_quantity, each, signal_of, node, nature_named}
 use Rattle.unit_meaning.specs.declared.request.Actual.{Actual}
 use Rattle.unit_meaning.specs.declared.request.Actual.TheVariants as actual
 use Rattle.unit_meaning.specs.declared.request.Assigned.{Assigned}
 use Rattle.unit_meaning.specs.Interfaces.{first_place, is_out, access_of, class_of, quantity_subtype, quantity_port, port_declaration}
-use Rattle.unit_meaning.specs.Walk.{Entry, bound, signal_bound, new_port_signal, signal_entered, terminal_entered, is_source, is_used, out_bound, quantity_bound, quantity_entered, names_entered, judged_entry, port_entered, port_names, ports_entered, if_some, actual_at}
-use Rattle.alike_laws.specs.Alike.{HasNoFaults, OnlyTold, Reads, IsShown, at_instance, AlikeThing, AlikeScopes}
-use Rattle.alike_laws.proofs.Notes.{no_fault}
+use Rattle.unit_meaning.specs.Walk.{Entry, bound, signal_bound, new_port_signal, signal_entered, terminal_entered, is_source, is_used, out_bound, quantity_bound, quantity_entered, names_entered, actual_at}
+use Rattle.alike_laws.specs.Alike.{HasNoFaults, at_instance, AlikeThing}
 use Rattle.alike_books.specs.Books.{AlikeBooks}
-use Rattle.alike_books.proofs.Before.{RuleBefore, found_before, valued_before, subtype_before, closed_before, declared_before, each_before, declaring_before, each_of_before}
-use Rattle.alike_books.proofs.Parts.{shown_where, shown_judged, subtype_reads, valued_reads}
-use Rattle.alike_books.proofs.Names.{IsKept, kept_closed, told_closed, noted_books, with_books, declared_alike, RulesAlike}
-use Rattle.alike_books.proofs.Objects.{with_node, broken_alike, signal_alike, quantity_alike, terminal_alike, signal_before, node_before, quantity_of_before, signals_alike, signals_broken, nature_reads, nature_known}
+use Rattle.alike_books.proofs.Before.{RuleBefore, found_before, valued_before, subtype_before, each_before, declaring_before}
+use Rattle.alike_books.proofs.Names.{declared_alike}
+use Rattle.alike_books.proofs.Objects.{with_node, broken_alike, signal_alike, quantity_alike, terminal_alike, signal_before, node_before, quantity_of_before, signals_alike, signals_broken}
 use Rattle.alike_interfaces.specs.Interfaces.{IsElectrical, IsElectricalActual, NamesAreElectrical}
 use Rattle.alike_interfaces.proofs.Generics.{if_some_step, some_is}
 

@@ -1,9 +1,8 @@
 -- Ports in their order, and the interface as a whole.
-use Rattle.std.proofs.Common.{◌≡◌, ◌<◌, ◌+◌, ℕ, ℤ, pos, zero, suc, Bool, true, false, List, [], ◌∷◌, ◌++◌, length, map, get_or, replicate, Option, Some, None, refl, sym, ap, subst, ◌∙◌, arith}
+use Rattle.std.proofs.Common.{◌≡◌, ◌<◌, ◌+◌, ℕ, pos, zero, suc, List, [], ◌∷◌, length, replicate, Option, Some, refl, sym, subst}
 use Rattle.std.specs.List.{fold}
 use Rattle.std.proofs.lemmas.List.{length-replicate}
 use Rattle.ams_tree.specs.declared.expression.Name.{Name}
-use Rattle.ams_tree.specs.declared.declaration.Generic.{Generic}
 use Rattle.ams_tree.specs.declared.declaration.Mode.{Mode}
 use Rattle.ams_tree.specs.declared.declaration.Port.{Port}
 use Rattle.ams_tree.specs.declared.declaration.Port.TheVariants as port
@@ -12,30 +11,29 @@ use Rattle.flat_design.specs.declared.objects.QuantityKind.TheVariants as flat
 use Rattle.name_scope.specs.declared.thing.Subtype.{Subtype}
 use Rattle.name_scope.specs.declared.scope.Scope.{Scope}
 use Rattle.elab_meaning.specs.declared.book.Book.{Book}
-use Rattle.elab_meaning.specs.declared.fault.Notes.{Notes}
 use Rattle.elab_meaning.specs.declared.part.Part.{Part}
 use Rattle.elab_meaning.specs.declared.part.Part.TheVariants.{Kept, Wrong, Hidden}
 use Rattle.elab_meaning.specs.declared.typed.Valued.{Valued}
 use Rattle.elab_meaning.specs.Notes.{no_notes}
-use Rattle.elab_meaning.specs.Parts.{kept, judged, closed}
+use Rattle.elab_meaning.specs.Parts.{kept, closed}
 use Rattle.elab_meaning.specs.Subtypes.{subtype, valued}
-use Rattle.elab_meaning.specs.Declarations.{with_notes, each_of, declaring_each, signal_of, node, nature_named, free_of}
+use Rattle.elab_meaning.specs.Declarations.{with_notes, each_of, signal_of, node, nature_named, free_of}
 use Rattle.unit_meaning.specs.declared.request.Assigned.{Assigned}
 use Rattle.unit_meaning.specs.declared.request.Request.{Request}
 use Rattle.unit_meaning.specs.declared.site.Site.{Site}
 use Rattle.unit_meaning.specs.Interfaces.{first_place, access_of, class_of, generic, quantity_subtype, quantity_port, port_declaration, interface}
 use Rattle.unit_meaning.specs.Units.{start_of}
-use Rattle.unit_meaning.specs.Walk.{Entry, matched, signal_entered, terminal_entered, quantity_entered, names_entered, judged_entry, port_entered, port_names, ports_entered, generics_entered, if_some, actual_at, port_numbers, generic_numbers, entry_of_instance}
-use Rattle.alike_laws.specs.Alike.{HasNoFaults, OnlyTold, Reads, IsShown, at_instance, AlikeScopes}
+use Rattle.unit_meaning.specs.Walk.{Entry, matched, signal_entered, terminal_entered, quantity_entered, names_entered, judged_entry, port_entered, port_names, ports_entered, generics_entered, if_some, port_numbers, generic_numbers, entry_of_instance}
+use Rattle.alike_laws.specs.Alike.{HasNoFaults, Reads, IsShown, at_instance, AlikeScopes}
 use Rattle.alike_laws.proofs.Start.{start_alike}
 use Rattle.alike_books.specs.Books.{AlikeBooks}
-use Rattle.alike_books.proofs.Before.{RuleBefore, closed_before, each_of_before}
+use Rattle.alike_books.proofs.Before.{closed_before, each_of_before}
 use Rattle.alike_books.proofs.Parts.{shown_where, shown_judged, subtype_reads, valued_reads}
 use Rattle.alike_books.proofs.Names.{IsKept, kept_closed, told_closed, noted_books}
 use Rattle.alike_books.proofs.Objects.{signal_before, node_before, quantity_of_before, nature_reads, nature_known}
 use Rattle.alike_interfaces.specs.Interfaces.{PortIsElectrical, PortsAreElectrical, RequestIsElectrical, InterfacesFollow}
 use Rattle.alike_interfaces.proofs.Generics.{if_some_step, some_is, generics_before, generics_alike}
-use Rattle.alike_interfaces.proofs.Ports.{port_before, ports_before, EachEnters, every_name, names_alike, signal_enters, every_terminal, quantity_enters}
+use Rattle.alike_interfaces.proofs.Ports.{ports_before, EachEnters, every_name, names_alike, signal_enters, every_terminal, quantity_enters}
 
 -- ---- each port
 
@@ -86,8 +84,8 @@ module _ (natures : List ℕ) (zeros : (m : ℕ) → at_instance natures m ≡ 0
       nodes (with_notes (closed place a.1 a.0) c) (judged_entry place b i)
       (noted_books natures c i.book (closed place a.1 a.0) (closed place b.1 b.0) h (told_closed ℕ place b.1 b.0 (reads.notes.told (closed_before ℕ place a.1 a.0 closing) h.told))) j k names a.1
       (λ q is.
-          let known = nature_known natures c i.book h.scopes m q is in
-          every_terminal natures texts q known (zeros q) given k names all)
+      let known = nature_known natures c i.book h.scopes m q is in
+      every_terminal natures texts q known (zeros q) given k names all)
       (kept_closed ℕ place a.1 a.0 reads.right closing) e n
   port_alike (port.Quantity place names mode y) k c i j all e n h =
       let a = quantity_subtype texts y c in
@@ -149,8 +147,8 @@ module _ (texts : List (List ℕ)) (r : Request) (e : Entity) (s : Site) (c : Bo
       let first =
       if_some_step (List (ℕ × Assigned)) Entry
       (λ (generics : List (ℕ × Assigned)).
-          if_some (λ (ports : List (ℕ × Assigned)).
-          if_some (λ (b : Book). ports_entered texts r.outer ports 0 e.ports (record { book = b; used = s.used })) (generics_entered texts generics 0 e.generics start)) (matched (port_numbers e.ports) r.ports))
+      if_some (λ (ports : List (ℕ × Assigned)).
+      if_some (λ (b : Book). ports_entered texts r.outer ports 0 e.ports (record { book = b; used = s.used })) (generics_entered texts generics 0 e.generics start)) (matched (port_numbers e.ports) r.ports))
       (matched (generic_numbers e.generics) r.generics) entry is in
       let second =
       if_some_step (List (ℕ × Assigned)) Entry
