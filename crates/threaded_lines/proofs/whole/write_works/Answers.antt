@@ -1,0 +1,28 @@
+use Rattle.lockstep_model.specs.Lockstep.{lockstep}
+use Rattle.lockstep_model.specs.Works.{events_of}
+use Rattle.std.proofs.Common.{◌∷◌, []}
+use Rattle.trace_text.specs.Trace.{end_line}
+use Rattle.trace_sink.specs.PutsLaws.{puts_stops}
+use Rattle.trace_lines.specs.Lines.{event_lines}
+use Rattle.threaded_lines.specs.EndLaws.{work_puts, work_end, work_report}
+use Rattle.threaded_lines.proofs.whole.write_works.Goals as goal
+
+pub returns-in-Ok-clause-puts : goal.returns-in-Ok-clause-puts
+returns-in-Ok-clause-puts g c =
+    let run = lockstep (g.D.Design.system 0) in
+    work_puts c.run_lines-lined.result.ended c.end_with-ended.result.0 c.in-Ok.end run.end (event_lines c.args.enums.now (events_of run.works)) _ _ _ _ _ _
+    c.in-Ok.is c.run_lines-lined.ensures.end c.run_lines-lined.ensures.puts c.end_with-ended.ensures.puts
+
+pub returns-in-Ok-clause-end : goal.returns-in-Ok-clause-end
+returns-in-Ok-clause-end g c =
+    work_end c.run_lines-lined.result.ended c.end_with-ended.result.0 c.in-Ok.end (lockstep (g.D.Design.system 0)).end c.in-Ok.is c.run_lines-lined.ensures.end c.end_with-ended.ensures.end
+
+pub returns-in-Ok-clause-report : goal.returns-in-Ok-clause-report
+returns-in-Ok-clause-report g c =
+    let lined = c.run_lines-lined.result in
+    work_report lined.ended c.end_with-ended.result.0 c.in-Ok.end (lockstep (g.D.Design.system 0)).works lined.own lined.counts c.in-Ok.is c.run_lines-lined.ensures.report
+
+pub returns-clause-puts : goal.returns-clause-puts
+returns-clause-puts g c =
+    let run = lockstep (g.D.Design.system 0) in
+    puts_stops c.run_lines-lined.result.ended c.in-Err.fault (event_lines c.args.enums.now (events_of run.works)) (end_line run.end ∷ []) _ _ _ _ c.run_lines-lined.ensures.puts c.in-Err.is
