@@ -1,5 +1,5 @@
 -- Dots that are named in an expression stand in what it is read as.
-use Rattle.std.proofs.Common.{◌≡◌, ◌≤◌, ◌<◌, ◌+◌, ⊎_elim, ℕ, zero, suc, Bool, true, false, if◌then◌else◌, List, [], ◌∷◌, ◌++◌, length, length-append, append_assoc, append-nil, map, Option, Some, None, IfSome, refl, sym, ap, ◌∙◌, subst, arith}
+use Rattle.std.proofs.Common.{◌≡◌, ◌≤◌, ◌+◌, ⊎_elim, ℕ, suc, Bool, true, false, if◌then◌else◌, List, [], ◌∷◌, ◌++◌, length, length-append, append_assoc, append-nil, map, Option, Some, None, IfSome, refl, sym, ap, ◌∙◌, subst, arith}
 use Rattle.std.specs.Prelude.{nat_eq, ◌&&◌, ◌||◌}
 use Rattle.std.specs.List.{slice_get, list_any, flat_map}
 use Rattle.std.proofs.lemmas.Bool.{or_left, or_right, or_cases}
@@ -35,12 +35,11 @@ use Rattle.name_scope.specs.Scopes.{lookup}
 use Rattle.elab_meaning.specs.declared.fault.Cause.TheVariants.{NotStatic}
 use Rattle.elab_meaning.specs.declared.fault.Fault.{Fault}
 use Rattle.elab_meaning.specs.declared.fault.Notes.{Notes}
-use Rattle.elab_meaning.specs.declared.typed.Asked.{Asked}
 use Rattle.elab_meaning.specs.declared.typed.Context.{Context}
 use Rattle.elab_meaning.specs.declared.typed.Typed.{Typed}
 use Rattle.elab_meaning.specs.Notes.{Found, noted, wrong, changing, dotted}
 use Rattle.elab_meaning.specs.Kinds.{unary_kind, binary_kind, is_vector, same_kind, value_type}
-use Rattle.elab_meaning.specs.Names.{named, function_at, vector_at, element_at, element_of_name, indexed, applied, call_with, call_at, missing, index_range, dot, dot_at, above_at}
+use Rattle.elab_meaning.specs.Names.{named, function_at, vector_at, element_at, element_of_name, indexed, applied, call_at, missing, index_range, dot, dot_at, above_at}
 use Rattle.elab_meaning.specs.Expressions.{Reading, prefix, infix_of, prefixed, unary_at, joined, binary_at, parenthesized, asked, static_in, put, arguments, attribute_step, expr_step, expression, attribute}
 use Rattle.unit_meaning.specs.Simultaneous.{dots_of_attribute, dots_step, dots_in}
 use Rattle.design_meaning.specs.Value.{same_unknown}
@@ -237,7 +236,7 @@ module _ (texts : List (List ℕ)) (scope : Scope) where
   names_of all = flat_map (λ (xs : List ℕ). xs) (map dots_in (map (λ (p : ExprPart). p.0) all))
 
   call_shows : (x : Name) (all : List ExprPart) (c : Context) (n : Notes) → Shows c (names_of all) (expr_step texts scope (Expr-F.Call x (readings all)) c n)
-  call_shows x [] c n = nothing_named c (expr_step texts scope (Expr-F.Call x []) c n)
+  call_shows x [] c n fine short = nothing_named c (expr_step texts scope (Expr-F.Call x []) c n) fine short
   call_shows x (p ∷ []) c n fine short =
       let start = missing x (lookup scope x.number) n in
       let found = expression texts scope p.0 c start in
@@ -270,15 +269,14 @@ module _ (texts : List (List ℕ)) (scope : Scope) where
   dot_of c x q k n is fine short y i class named there =
       let here = changing c x.place n in
       let same : y ≡ x.number = same_name y x.number named in
-      let found : thing.Quantity q k ≡ thing.Quantity i class = some_same (sym is ∙ subst (λ (z : ℕ). lookup scope z ≡ Some (thing.Quantity i class)) same there) in
-      (
+      let found : thing.Quantity q k ≡ thing.Quantity i class = some_same (sym is ∙ subst (λ (z : ℕ). lookup scope z ≡ Some (thing.Quantity i class)) same there) in (
         still c x.place n (fine_before here (dotted q here) (grows_dotted q here) fine),
         subst (HasDot (In (e.Unknown (Dot (number_of_dot q n.dots)))) (dotted q here).dots) (quantity_same q i k class found)
-        (record {
-          number = number_of_dot q n.dots;
-          number_is = subst (λ (l : List ℕ). slice_get (dotted q here).dots (number_of_dot q l) ≡ Some q) (same_before c x.place n) (dot_noted q here short);
-          stands = in_itself (number_of_dot q n.dots);
-        }),
+            (record {
+              number = number_of_dot q n.dots;
+              number_is = subst (λ (l : List ℕ). slice_get (dotted q here).dots (number_of_dot q l) ≡ Some q) (same_before c x.place n) (dot_noted q here short);
+              stands = in_itself (number_of_dot q n.dots);
+            }),
       )
     where
       same_before : (c : Context) (place : Place) (n : Notes) → (changing c place n).dots ≡ n.dots

@@ -1,7 +1,7 @@
 -- Parts of simultaneous statements, and the dots in them.
-use Rattle.std.proofs.Common.{◌≡◌, ◌≤◌, ⊎_elim, ℕ, Bool, true, false, if◌then◌else◌, List, [], ◌∷◌, ◌++◌, length, append_assoc, append-nil, map, Option, Some, None, IfSome, refl, sym, ap, ◌∙◌, subst}
+use Rattle.std.proofs.Common.{◌≡◌, ◌≤◌, ⊎_elim, ℕ, Bool, true, false, List, [], ◌∷◌, ◌++◌, length, Option, Some, None, IfSome, refl, sym, ◌∙◌}
 use Rattle.std.specs.Prelude.{nat_eq, IsSome, ◌||◌, ◌&&◌}
-use Rattle.std.specs.List.{list_any, flat_map}
+use Rattle.std.specs.List.{list_any}
 use Rattle.std.proofs.lemmas.Bool.{or_left, or_right, or_cases}
 use Rattle.std.proofs.lemmas.List.Folds.{list_any-append}
 use Rattle.ams_token.specs.declared.token.Place.{Place}
@@ -25,7 +25,7 @@ use Rattle.elab_meaning.specs.declared.typed.Typed.{Typed}
 use Rattle.elab_meaning.specs.Kinds.{same_kind}
 use Rattle.elab_meaning.specs.Parts.{part_of, where_true, judged, both, closed}
 use Rattle.elab_meaning.specs.Expressions.{expression}
-use Rattle.unit_meaning.specs.Settings.{Setting, equating, typed, ahead, listed, sealed, finished}
+use Rattle.unit_meaning.specs.Settings.{Setting, equating, typed, ahead, sealed}
 use Rattle.unit_meaning.specs.Cases.{place_of}
 use Rattle.unit_meaning.specs.Simultaneous.{pair_of, pair, pairs, dots_in, dots_in_equations}
 use Rattle.design_rules.specs.Equations.{stands_in}
@@ -36,7 +36,7 @@ use Rattle.draft_laws.proofs.Notes.{grows_closed}
 use Rattle.scope_laws.specs.Holds.{HasNoFaults}
 use Rattle.selector_laws.specs.Selectors.{HasDot, in_pairs, KeepsReadings}
 use Rattle.selector_laws.proofs.Dots.{dot_later, dot_wider, fine_before, short_before}
-use Rattle.selector_laws.proofs.Expressions.{Shown, same_dots, more_dots, expression_shows}
+use Rattle.selector_laws.proofs.Expressions.{Shown, more_dots, expression_shows}
 
 -- ---- parts where no rule is broken inside
 
@@ -115,7 +115,10 @@ module _ (w : Setting) (scope : Scope) (keeps : KeepsReadings w.texts scope) whe
       on : (o : Option Typed) → IsSome o → IfSome o (Shown w.texts scope c (expression w.texts scope x c n).0.dots (dots_in x))
           → OnShown Typed (λ a. Each (dots_in x) all (λ u. stands_in u a.expr)) (part_of o)
       on (Some a) some h = λ y i k named there. dot_later (λ u. stands_in u a.expr) (expression w.texts scope x c n).0.dots all i e (h y i k named there).1
-      on None some h = absurd some
+      on None some h = absurd (none_is_not some)
+        where
+          none_is_not : IsSome {T = Typed} None → ⊥
+          none_is_not h = cc
 
   -- ---- equations
 

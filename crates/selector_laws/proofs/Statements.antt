@@ -1,5 +1,5 @@
 -- Simultaneous statements, and the dots in what they make.
-use Rattle.std.proofs.Common.{◌≡◌, ◌≤◌, ℕ, Bool, true, false, if◌then◌else◌, List, [], ◌∷◌, ◌++◌, length, append-nil, map, Option, Some, None, IfSome, refl, sym, ap, ◌∙◌, subst}
+use Rattle.std.proofs.Common.{◌≡◌, ◌≤◌, ℕ, Bool, true, false, if◌then◌else◌, List, [], ◌∷◌, ◌++◌, length, append-nil, Option, Some, None, refl, sym, ap, ◌∙◌, subst}
 use Rattle.std.specs.Prelude.{nat_eq, not, IsSome, ◌||◌}
 use Rattle.std.specs.List.{list_any, flat_map}
 use Rattle.std.proofs.lemmas.Bool.{or_left}
@@ -44,7 +44,7 @@ use Rattle.elab_meaning.specs.Notes.{noted}
 use Rattle.elab_meaning.specs.Parts.{part_of, where_true, judged, both, closed}
 use Rattle.elab_meaning.specs.Expressions.{expression, asked_value, asked, static_in, static}
 use Rattle.unit_meaning.specs.declared.draft.Seen.{Seen}
-use Rattle.unit_meaning.specs.Settings.{Setting, equating, choosing, typed, of_kind, must_be, ahead, listed, sealed}
+use Rattle.unit_meaning.specs.Settings.{Setting, equating, choosing, typed, of_kind, must_be, ahead, listed}
 use Rattle.unit_meaning.specs.Cases.{place_of, nothing_seen, with_value, fits_kind, choosing_value, one_choice, seen_or, choices, covers, beside}
 use Rattle.unit_meaning.specs.Concurrent.{process_of, equation_of}
 use Rattle.unit_meaning.specs.Sequential.{kind_known}
@@ -59,7 +59,7 @@ use Rattle.scope_laws.specs.Holds.{HasNoFaults}
 use Rattle.selector_laws.specs.Selectors.{in_pairs, KeepsReadings, DotsStand, SelectorsHaveDots}
 use Rattle.selector_laws.proofs.Dots.{fine_before}
 use Rattle.selector_laws.proofs.Expressions.{same_dots, more_dots}
-use Rattle.selector_laws.proofs.Parts.{OnShown, OnWhole, whole_shown, judged_shown, both_shown, where_shown, sealed_whole, Each, each_wider, each_both, Reads, typed_reads, names_in, in_pair, grows_pair, pair_reads, grows_pairs, pairs_read}
+use Rattle.selector_laws.proofs.Parts.{OnShown, OnWhole, judged_shown, both_shown, where_shown, sealed_whole, Each, each_wider, each_both, names_in, in_pair, pair_reads, grows_pairs, pairs_read}
 
 abbrev Any : (A : Type 0) → A → Type 0
 Any A a = Unit {0}
@@ -75,6 +75,9 @@ grows_compared place lengths n = go (same_lengths lengths)
     go : (b : Bool) → Grows n (if b then n else noted place UnequalBranches n)
     go true = grows_same n
     go false = grows_noted place UnequalBranches n
+
+none_there : (A : Type 0) → IsSome {T = A} None → ⊥
+none_there A h = cc
 
 module _ (w : Setting) (scope : Scope) (keeps : KeepsReadings w.texts scope) where
   abbrev Dots : List ℕ → List ℕ → (Unknown → Bool) → Type 0
@@ -96,11 +99,11 @@ module _ (w : Setting) (scope : Scope) (keeps : KeepsReadings w.texts scope) whe
   must_shown : (x : Expr) (n : Notes) → HasNoFaults (must_be w scope choosing (Of t.Boolean) x n).0 → OnShown FlatExpr (Any FlatExpr) (must_be w scope choosing (Of t.Boolean) x n).1
   must_shown x n fine =
       let found = typed w scope choosing x n in
-      judged_shown Typed FlatExpr (Any Typed) (Any FlatExpr) (of_kind (Of t.Boolean)) (λ a h. where_shown FlatExpr (Any FlatExpr) (same_kind a.kind (Of t.Boolean)) a.expr tt) found.1 (on found.1 (keeps x choosing n fine))
+      judged_shown Typed FlatExpr (Any Typed) (Any FlatExpr) (of_kind (Of t.Boolean)) (λ a h. where_shown FlatExpr (Any FlatExpr) (same_kind a.kind (Of t.Boolean)) a.expr tt) found.1 (on (expression w.texts scope x choosing n).1 (keeps x choosing n fine))
     where
       on : (o : Option Typed) → IsSome o → OnShown Typed (Any Typed) (part_of o)
       on (Some a) h = tt
-      on None h = absurd h
+      on None h = absurd (none_there Typed h)
 
   abbrev arm_pairs : List IfArm → List Pair
   arm_pairs arms = flat_map (λ (arm : IfArm). arm.pairs) arms
@@ -164,25 +167,25 @@ module _ (w : Setting) (scope : Scope) (keeps : KeepsReadings w.texts scope) whe
       let on : Grows arms.0 rest.0 = grows_last last arms.0 in
       let fine_rest : HasNoFaults rest.0 = fine_before rest.0 behind to_end fine in
       sealed_whole Made (HasDots (branch_equations bs ++ equations_or last) all) place whole here fine
-      (both_shown (List IfArm) (List Pair) Made (λ as. Dots (dots_in_equations (branch_equations bs)) all (in_pairs (arm_pairs as))) (λ ps. Dots (dots_in_equations (equations_or last)) all (in_pairs ps))
-      (HasDots (branch_equations bs ++ equations_or last) all) (chosen_if size) (λ as ps h g. joined (branch_equations bs) (equations_or last) all (arm_pairs as) ps h g) arms.1 rest.1
+      (both_shown (List IfArm) (List Pair) Made (λ xs. Dots (dots_in_equations (branch_equations bs)) all (in_pairs (arm_pairs xs))) (λ ps. Dots (dots_in_equations (equations_or last)) all (in_pairs ps))
+      (HasDots (branch_equations bs ++ equations_or last) all) (chosen_if size) (λ xs ps h g. joined (branch_equations bs) (equations_or last) all (arm_pairs xs) ps h g) arms.1 rest.1
       (arms_read bs n all (more_dots arms.0.dots rest.0.dots all on.dots to_end.dots) short (fine_before arms.0 rest.0 on fine_rest)) (last_reads last arms.0 all to_end.dots short fine_rest))
 
   -- ---- choices
 
   asked_value_there : (place : Place) (k : Kind) (v : StaticValue) (n : Notes) → HasNoFaults (asked_value place k v n).0 → IsSome (asked_value place k v n).1
-  asked_value_there place k (Known v) n h = tt
+  asked_value_there place k (Known v) n h = refl
   asked_value_there place k Faulty n h = absurd (not_added n.faults _ h)
     where
       not_added : (xs : List Fault) (x : Fault) → xs ++ x ∷ [] ≡ [] → ⊥
       not_added [] x h = absurd (cc)
       not_added (y ∷ xs) x h = absurd (cc)
-  asked_value_there place k Later n h = tt
-  asked_value_there place k Changing n h = tt
+  asked_value_there place k Later n h = refl
+  asked_value_there place k Changing n h = refl
 
   asked_there : (o : Option Typed) (n : Notes) → IsSome o → HasNoFaults (asked o n).0 → IsSome (asked o n).1
   asked_there (Some a) n some h = asked_value_there a.place a.kind a.value n h
-  asked_there None n some h = absurd some
+  asked_there None n some h = absurd (none_there Typed some)
 
   static_there : (c : Context) (x : Expr) (n : Notes) → HasNoFaults (static w.texts scope x c n).0 → IsSome (static w.texts scope x c n).1
   static_there c x n fine =
@@ -210,7 +213,7 @@ module _ (w : Setting) (scope : Scope) (keeps : KeepsReadings w.texts scope) whe
     where
       on : (o : Option Asked) → IsSome o → OnShown Asked (Any Asked) (part_of o)
       on (Some a) h = tt
-      on None h = absurd h
+      on None h = absurd (none_there Asked h)
   one_there c k s (choice.Others place) n fine =
       sealed_whole Seen (Any Seen) place (where_true (not s.others) (record s { others = true })) n fine (where_shown Seen (Any Seen) (not s.others) (record s { others = true }) tt)
 
@@ -234,7 +237,7 @@ module _ (w : Setting) (scope : Scope) (keeps : KeepsReadings w.texts scope) whe
   abbrev case_equations : List SimultaneousAlternative → List Equation
   case_equations all = flat_map (λ (a : SimultaneousAlternative). a.equations) all
 
-  grows_case : (k : Option Kind) (s : Seen) (as : List SimultaneousAlternative) (n : Notes) → Grows n (case_arms w scope k s as n).0
+  grows_case : (k : Option Kind) (s : Seen) (alts : List SimultaneousAlternative) (n : Notes) → Grows n (case_arms w scope k s alts n).0
   grows_case k s [] n = grows_same n
   grows_case k s (a ∷ more) n =
       let c = choices w scope (static_in equating) k s a.choices n in
@@ -242,8 +245,8 @@ module _ (w : Setting) (scope : Scope) (keeps : KeepsReadings w.texts scope) whe
       let rest = case_arms w scope k c.1.0 more ps.0 in
       grows_on n c.0 rest.0 (grows_choices w scope (static_in equating) k s a.choices n) (grows_on c.0 ps.0 rest.0 (grows_pairs w scope keeps a.equations c.0) (grows_case k c.1.0 more ps.0))
 
-  case_reads : (k : Option Kind) (s : Seen) (as : List SimultaneousAlternative) (n : Notes) (all : List ℕ) → Extends ℕ (case_arms w scope k s as n).0.dots all → length all ≤ unknown_limit
-      → HasNoFaults (case_arms w scope k s as n).0 → OnShown (List CaseArm) (λ arms. Dots (dots_in_equations (case_equations as)) all (in_pairs (case_pairs arms))) (case_arms w scope k s as n).1.1
+  case_reads : (k : Option Kind) (s : Seen) (alts : List SimultaneousAlternative) (n : Notes) (all : List ℕ) → Extends ℕ (case_arms w scope k s alts n).0.dots all → length all ≤ unknown_limit
+      → HasNoFaults (case_arms w scope k s alts n).0 → OnShown (List CaseArm) (λ arms. Dots (dots_in_equations (case_equations alts)) all (in_pairs (case_pairs arms))) (case_arms w scope k s alts n).1.1
   case_reads k s [] n all e short fine = λ x i c named there. absurd (cc)
   case_reads k s (a ∷ more) n all e short fine =
       let c = choices w scope (static_in equating) k s a.choices n in
@@ -260,28 +263,28 @@ module _ (w : Setting) (scope : Scope) (keeps : KeepsReadings w.texts scope) whe
       (pairs_read w scope keeps a.equations c.0 all (more_dots ps.0.dots rest.0.dots all to_rest.dots e) short fine_ps))
       (case_reads k c.1.0 more ps.0 all e short fine)
 
-  case_whole : (place : Place) (x : Expr) (as : List SimultaneousAlternative) (n : Notes) → HasNoFaults (case_statement w scope place x as n).0 → length (case_statement w scope place x as n).0.dots ≤ unknown_limit
-      → OnWhole Made (HasDots (case_equations as) (case_statement w scope place x as n).0.dots) (case_statement w scope place x as n).1
-  case_whole place x as n fine short =
+  case_whole : (place : Place) (x : Expr) (alts : List SimultaneousAlternative) (n : Notes) → HasNoFaults (case_statement w scope place x alts n).0 → length (case_statement w scope place x alts n).0.dots ≤ unknown_limit
+      → OnWhole Made (HasDots (case_equations alts) (case_statement w scope place x alts n).0.dots) (case_statement w scope place x alts n).1
+  case_whole place x alts n fine short =
       let e = typed w scope choosing x n in
-      let arms = case_arms w scope (kind_known e.1) nothing_seen as e.0 in
-      let size = first_length (case_lengths as) in
-      let here = compared place (case_lengths as) arms.0 in
+      let arms = case_arms w scope (kind_known e.1) nothing_seen alts e.0 in
+      let size = first_length (case_lengths alts) in
+      let here = compared place (case_lengths alts) arms.0 in
       let whole = both (chosen_case w arms.1.0 size) e.1 arms.1.1 in
       let behind = closed place whole here in
       let all = behind.dots in
-      let to_end : Grows arms.0 behind = grows_on arms.0 here behind (grows_compared place (case_lengths as) arms.0) (grows_closed Made place whole here) in
-      let on : Grows e.0 arms.0 = grows_case (kind_known e.1) nothing_seen as e.0 in
+      let to_end : Grows arms.0 behind = grows_on arms.0 here behind (grows_compared place (case_lengths alts) arms.0) (grows_closed Made place whole here) in
+      let on : Grows e.0 arms.0 = grows_case (kind_known e.1) nothing_seen alts e.0 in
       let fine_arms : HasNoFaults arms.0 = fine_before arms.0 behind to_end fine in
-      sealed_whole Made (HasDots (case_equations as) all) place whole here fine
-      (both_shown Typed (List CaseArm) Made (Any Typed) (λ l. Dots (dots_in_equations (case_equations as)) all (in_pairs (case_pairs l))) (HasDots (case_equations as) all) (chosen_case w arms.1.0 size)
-      (λ y l h g. where_shown Made (HasDots (case_equations as) all) (covers w.enumerations y.kind arms.1.0) (equation.Choice (record { selection = selection.Case y.expr l; size = size })) g) e.1 arms.1.1
+      sealed_whole Made (HasDots (case_equations alts) all) place whole here fine
+      (both_shown Typed (List CaseArm) Made (Any Typed) (λ l. Dots (dots_in_equations (case_equations alts)) all (in_pairs (case_pairs l))) (HasDots (case_equations alts) all) (chosen_case w arms.1.0 size)
+      (λ y l h g. where_shown Made (HasDots (case_equations alts) all) (covers w.enumerations y.kind arms.1.0) (equation.Choice (record { selection = selection.Case y.expr l; size = size })) g) e.1 arms.1.1
       (there (expression w.texts scope x choosing n).1 (keeps x choosing n (fine_before e.0 arms.0 on fine_arms)))
-      (case_reads (kind_known e.1) nothing_seen as e.0 all to_end.dots short fine_arms))
+      (case_reads (kind_known e.1) nothing_seen alts e.0 all to_end.dots short fine_arms))
     where
       there : (o : Option Typed) → IsSome o → OnShown Typed (Any Typed) (part_of o)
       there (Some a) h = tt
-      there None h = absurd h
+      there None h = absurd (none_there Typed h)
 
   -- ---- simple
 

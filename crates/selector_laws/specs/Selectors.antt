@@ -1,5 +1,5 @@
 -- The names whose 'dot stands in an equation (IEEE 1076.1, simultaneous statements and the break statement).
-use Rattle.std.specs.Prelude.{◌≡◌, ◌≤◌, ℕ, nat_eq, Bool, true, false, ◌||◌, List, length, Option, Some, IfSome, IsSome}
+use Rattle.std.specs.Prelude.{◌≡◌, ◌≤◌, ℕ, nat_eq, Bool, true, false, ◌||◌, List, length, Option, Some, IsSome}
 use Rattle.std.specs.List.{slice_get, list_any}
 use Rattle.ams_tree.specs.declared.concurrent.ConcurrentStatement.{ConcurrentStatement}
 use Rattle.ams_tree.specs.declared.expression.Expr.{Expr}
@@ -7,7 +7,6 @@ use Rattle.ams_tree.specs.declared.expression.Name.{Name}
 use Rattle.flat_expr.specs.declared.expr.Unknown.{Unknown}
 use Rattle.flat_expr.specs.declared.expr.Unknown.TheVariants.{Dot}
 use Rattle.flat_design.specs.Limits.{unknown_limit}
-use Rattle.flat_design.specs.declared.objects.Equation.{Equation}
 use Rattle.flat_design.specs.declared.objects.Pair.{Pair}
 use Rattle.name_scope.specs.declared.scope.Scope.{Scope}
 use Rattle.name_scope.specs.declared.thing.QuantityClass.{QuantityClass}
