@@ -1,11 +1,9 @@
 -- Trees that tokens spell have no more statements and branches than tokens.
-use Rattle.std.proofs.Common.{◌≡◌, ◌≤◌, ◌<◌, ℕ, ◌+◌, ⊎_elim, List, [], ◌∷◌, length, Option, sym, subst, arith}
+use Rattle.std.proofs.Common.{◌≤◌, ◌<◌, ℕ, ◌+◌, ⊎_elim, List, [], ◌∷◌, length, sym, subst, arith}
 use Rattle.std.specs.List.{All}
 use Rattle.std.proofs.lemmas.List.Elements.{All-nil}
-use Rattle.ams_token.specs.declared.mark.Mark.TheVariants as m
 use Rattle.ams_token.specs.declared.word.Word.TheVariants as w
 use Rattle.ams_token.specs.declared.token.Place.{Place}
-use Rattle.ams_token.specs.declared.token.Token.{Token}
 use Rattle.ams_tree.specs.declared.concurrent.Concurrent.{Concurrent}
 use Rattle.ams_tree.specs.declared.concurrent.ConcurrentStatement.{ConcurrentStatement}
 use Rattle.ams_tree.specs.declared.concurrent.Equation.{Equation}
@@ -15,11 +13,11 @@ use Rattle.ams_tree.specs.declared.design.DesignFile.{DesignFile}
 use Rattle.ams_tree.specs.declared.design.DesignUnit.{DesignUnit}
 use Rattle.ams_tree.specs.declared.sequential.Assertion.{Assertion}
 use Rattle.ams_tree.specs.declared.sequential.Choice.{Choice}
-use Rattle.ams_tree.specs.Rule.{Rule, one, ◌>>◌}
-use Rattle.ams_tree.specs.Terminals.{mark, word, name_of}
+use Rattle.ams_tree.specs.Rule.{one, ◌>>◌}
+use Rattle.ams_tree.specs.Terminals.{word}
 use Rattle.ams_tree.specs.Expressions.{below}
 use Rattle.ams_tree.specs.Statements.{choices, assertion}
-use Rattle.ams_tree.specs.Concurrents.{equation, concurrent_assignment, concurrent_break, simultaneous_branch, simultaneous_alternative, simultaneous_alternatives, simultaneous_if, simultaneous_case, process_parts, maps, entity_aspect, instance, unlabelled, concurrent}
+use Rattle.ams_tree.specs.Concurrents.{equation, concurrent_assignment, concurrent_break, simultaneous_branch, simultaneous_alternative, simultaneous_alternatives, simultaneous_if, simultaneous_case, process_parts, maps, instance, unlabelled, concurrent}
 use Rattle.ams_tree.specs.Designs.{library_clause, use_clause, entity, architecture, design_unit, design_file}
 use Rattle.short_laws.specs.Short.{most_tokens, BranchesAreFew, UnitIsShort, TextsWriteShortTrees}
 use Rattle.short_laws.proofs.Tokens.{few_tokens}
