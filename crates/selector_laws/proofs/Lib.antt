@@ -1,0 +1,4 @@
+pub mod Dots
+pub mod Expressions
+pub mod Parts
+pub mod Statements
