@@ -1,0 +1,4 @@
+pub mod Instances
+pub mod Readings
+pub mod Premises
+pub mod Whole
