@@ -1,6 +1,5 @@
 -- What an instance of a file without faults breaks, as the laws of the walk ask it.
 use Rattle.std.proofs.Common.{◌≡◌, ℕ, IsTrue, List, None}
-use Rattle.std.specs.List.{All}
 use Rattle.std.proofs.lemmas.List.Elements.{All-weaker}
 use Rattle.ams_tree.specs.declared.concurrent.Concurrent.{Concurrent}
 use Rattle.ams_tree.specs.declared.concurrent.ConcurrentStatement.{ConcurrentStatement}

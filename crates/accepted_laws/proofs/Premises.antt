@@ -15,9 +15,10 @@ use Rattle.architecture_laws.specs.Counts.{has_counted}
 use Rattle.architecture_laws.proofs.Whole.{architectures_stand}
 use Rattle.site_invariant_laws.specs.Sites.{HasDomain}
 use Rattle.site_invariant_laws.specs.Premises.{IsMade, StatementsMake, Premises}
-use Rattle.accepted_laws.specs.Accepted.{IsFileOf, SelectorsFollow}
+use Rattle.accepted_laws.specs.Accepted.{IsFileOf}
 use Rattle.accepted_laws.proofs.Instances.{Fits, instances_are_fine}
 use Rattle.accepted_laws.proofs.Readings.{readings_kept}
+use Rattle.accepted_laws.proofs.Selectors.{selectors_follow}
 
 same_made : (objects : Objects) (m : Made) → IsMadeAlready objects m → IsMade objects m
 same_made objects (made.Process p) k = k
@@ -32,7 +33,7 @@ statements_make final w Also scope label x n stands cases written none room =
 has_first : (objects : Objects) → HasDomain objects → 0 < length objects.enumerations
 has_first objects h = subst (λ (l : List Enumeration). 0 < length l) (sym h.whole) (omega arith)
 
-module _ (text : List ℕ) (tokens : Tokens) (file : DesignFile) (is : IsFileOf text tokens file) (selectors : SelectorsFollow) where
+module _ (text : List ℕ) (tokens : Tokens) (file : DesignFile) (is : IsFileOf text tokens file) where
   pub premises : (final : Objects) → type_fault tokens.names file.units ≡ None → nature_fault tokens.names file.units ≡ None → Premises tokens.names file.units final (Fits file.units)
   premises final types natures =
       let texts = tokens.names in
@@ -58,5 +59,5 @@ module _ (text : List ℕ) (tokens : Tokens) (file : DesignFile) (is : IsFileOf 
             };
         selectors = λ r s e a entry h none holds made.
             let b = opened texts a entry.book in
-            selectors final (setting_of texts b a) b.scope a.statements (readings_kept texts file.units r s e a entry h none) refl made;
+            selectors_follow final (setting_of texts b a) b.scope a.statements (readings_kept texts file.units r s e a entry h none) refl made;
       }

@@ -1,5 +1,5 @@
 -- Where an instance breaks no rule, each expression that breaks none in its scope is found.
-use Rattle.std.proofs.Common.{◌≡◌, ℕ, IsSome, List, [], ◌∷◌, Option, Some, None, IfSome, refl, sym, subst, ◌∙◌}
+use Rattle.std.proofs.Common.{ℕ, IsSome, List, [], ◌∷◌, Option, Some, None, IfSome, refl, sym, subst, ◌∙◌}
 use Rattle.std.specs.List.{fold}
 use Rattle.ams_tree.specs.declared.concurrent.Concurrent.{Concurrent}
 use Rattle.ams_tree.specs.declared.design.Architecture.{Architecture}
@@ -22,7 +22,7 @@ use Rattle.made_count_laws.proofs.Parts.{before_breaks}
 use Rattle.made_count_laws.proofs.Books.{Makes}
 use Rattle.made_count_laws.proofs.Declarations.{One, opened_makes}
 use Rattle.made_count_laws.proofs.Interface.{start_sound, begin, interface_makes}
-use Rattle.accepted_laws.specs.Accepted.{KeepsReadings}
+use Rattle.selector_laws.specs.Selectors.{KeepsReadings}
 use Rattle.accepted_laws.proofs.Instances.{breaks_alike}
 
 there : (A : Type 0) (o : Option A) → IsThere o → IsSome o

@@ -5,7 +5,6 @@ use Rattle.std.specs.Str.{bytes_eq}
 use Rattle.std.proofs.lemmas.List.Elements.{All-nil}
 use Rattle.ams_token.specs.declared.tokens.Tokens.{Tokens}
 use Rattle.ams_tree.specs.declared.design.DesignFile.{DesignFile}
-use Rattle.ams_tree.specs.declared.design.DesignUnit.{DesignUnit}
 use Rattle.flat_design.specs.declared.objects.Objects.{Objects}
 use Rattle.flat_design.specs.Order.{unknown_count, equation_names}
 use Rattle.unit_meaning.specs.declared.site.Site.{Site}
@@ -23,7 +22,7 @@ use Rattle.limit_laws.proofs.Whole.{flat_designs_keep_limits}
 use Rattle.count_laws.proofs.Whole.{equations_match_unknowns}
 use Rattle.site_invariant_laws.specs.Sites.{SiteHolds}
 use Rattle.site_invariant_laws.proofs.Whole.{sites_hold}
-use Rattle.accepted_laws.specs.Accepted.{IsFileOf, IsAccepted, SelectorsFollow, AcceptedAreDesigns}
+use Rattle.accepted_laws.specs.Accepted.{IsFileOf, IsAccepted, AcceptedAreDesigns}
 use Rattle.accepted_laws.proofs.Instances.{instances_count, breaks_alike}
 use Rattle.accepted_laws.proofs.Premises.{premises}
 
@@ -64,7 +63,7 @@ design_of_site s h walk rest = record {
   ramps = subst (All (IsRamp s.objects)) (sym walk.ramps) (All-nil (IsRamp s.objects));
 }
 
-module _ (text : List ℕ) (tokens : Tokens) (file : DesignFile) (top : List ℕ) (is : IsFileOf text tokens file) (selectors : SelectorsFollow) where
+module _ (text : List ℕ) (tokens : Tokens) (file : DesignFile) (top : List ℕ) (is : IsFileOf text tokens file) where
   short_trees : All UnitIsShort file.units
   short_trees =
       let few : length tokens.list.items ≤ most_tokens = omega (arith, texts_write_short_trees.tokens text tokens is.has, is.short) in
@@ -72,7 +71,7 @@ module _ (text : List ℕ) (tokens : Tokens) (file : DesignFile) (top : List ℕ
 
   module _ (objects : Objects) (accepted : IsAccepted tokens.names file.units top objects) where
     holds : (x : Option ℕ) (s : Site) → walked tokens.names file.units top x ≡ Ok s → SiteHolds s.objects s
-    holds x s walk = sites_hold tokens.names file.units top x s (actuals_fit file.units) (premises text tokens file is selectors s.objects accepted.types accepted.natures) walk
+    holds x s walk = sites_hold tokens.names file.units top x s (actuals_fit file.units) (premises text tokens file is s.objects accepted.types accepted.natures) walk
 
     limited : IsLimited objects
     limited = flat_designs_keep_limits.whole tokens.names file.units top objects short_trees accepted.flat (λ x s walk. numbered s (holds x s walk))
@@ -96,4 +95,4 @@ module _ (text : List ℕ) (tokens : Tokens) (file : DesignFile) (top : List ℕ
         subst IsDesign flat.objects_are (design_of_site s h walk (subst Rest (sym flat.objects_are) rest))
 
 pub accepted_are_designs : AcceptedAreDesigns
-accepted_are_designs text tokens file top objects is selectors accepted = is_design text tokens file top is selectors objects accepted
+accepted_are_designs text tokens file top objects is accepted = is_design text tokens file top is objects accepted
