@@ -45,7 +45,7 @@ before_statements w start units scope (c ∷ more) n h =
     (before_breaks n n on on (breaks_alike w start units scope c.label c.statement n n) (before_statements w start units scope more on h)).0
 
 module _ (texts : List (List ℕ)) (units : List DesignUnit) (r : Request) (s : Site) (e : Entity) (a : Architecture) (entry : Entry) (h : IsEntered texts units r s e a entry)
-  (none : HasNoFaults (body_notes texts units a entry s)) where
+    (none : HasNoFaults (body_notes texts units a entry s)) where
   abbrev book : Book
   book = opened texts a entry.book
 
