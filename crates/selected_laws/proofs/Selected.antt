@@ -1,14 +1,12 @@
 -- From what each statement makes to the equations of the design.
-use Rattle.std.proofs.Common.{◌≡◌, ◌≤◌, ◌<◌, ◌⊎◌, inl, inr, ⊎_elim, ℕ, zero, suc, ◌+◌, Bool, true, false, List, [], ◌∷◌, ◌++◌, length, get_or, Option, Some, None, IfSome, refl, sym, ◌∙◌, subst, arith}
+use Rattle.std.proofs.Common.{◌≡◌, ◌<◌, ◌⊎◌, inl, inr, ⊎_elim, ℕ, zero, suc, Bool, true, false, List, [], ◌∷◌, ◌++◌, length, get_or, Option, Some, None, IfSome, refl, sym, subst, arith}
 use Rattle.std.specs.Prelude.{◌||◌, nat_eq}
-use Rattle.std.specs.List.{All, Contains, slice_get, list_any, flat_map}
+use Rattle.std.specs.List.{All, slice_get, list_any, flat_map}
 use Rattle.std.proofs.lemmas.List.Elements.{All-head, All-tail}
 use Rattle.ams_tree.specs.declared.concurrent.Concurrent.{Concurrent}
 use Rattle.ams_tree.specs.declared.concurrent.ConcurrentStatement.{ConcurrentStatement}
 use Rattle.ams_tree.specs.declared.concurrent.ConcurrentStatement.TheVariants as conc
-use Rattle.flat_expr.specs.declared.expr.Unknown.{Unknown}
 use Rattle.flat_expr.specs.declared.expr.Unknown.TheVariants.{Dot}
-use Rattle.flat_design.specs.declared.objects.Equation.{Equation}
 use Rattle.flat_design.specs.declared.objects.Objects.{Objects}
 use Rattle.flat_design.specs.declared.objects.Pair.{Pair}
 use Rattle.name_scope.specs.declared.thing.QuantityClass.{QuantityClass}
@@ -23,10 +21,10 @@ use Rattle.unit_meaning.specs.Concurrent.{concurrent}
 use Rattle.unit_meaning.specs.Simultaneous.{dots_in_equations, equations_in, selectors_of}
 use Rattle.design_rules.specs.Equations.{pairs_in, stands_in, IsSelector}
 use Rattle.reading_laws.specs.Growing.{Extends}
-use Rattle.allowed_laws.specs.Simple.{IsSelectorAt, SelectorsFit}
+use Rattle.allowed_laws.specs.Simple.{IsSelectorAt}
 use Rattle.walk_laws.specs.Steps.{IsNoInstance}
 use Rattle.site_invariant_laws.specs.Sites.{IsAmong, MadeIn, IsMadeIn}
-use Rattle.selected_laws.specs.Selected.{in_pairs, HasItsDot, DotsAreMade, StatementsMakeDots, SelectorsAreMade}
+use Rattle.selected_laws.specs.Selected.{HasItsDot, DotsAreMade, StatementsMakeDots, SelectorsAreMade}
 
 -- ---- lists
 
