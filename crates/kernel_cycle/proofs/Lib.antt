@@ -1,0 +1,7 @@
+pub mod Fronts
+pub mod Leaving
+pub mod Beginning
+pub mod Found
+pub mod Starts
+pub mod GoesOn
+pub mod Runs

@@ -1,0 +1,8 @@
+//! The timeouts of processes are entered into the agenda.
+#![tactic(auto)]
+
+mod entry;
+mod law;
+
+pub use entry::{enter_all, enter_timeouts};
+pub use law::entered_timeouts_are_of_states;
