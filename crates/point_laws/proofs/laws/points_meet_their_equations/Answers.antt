@@ -1,0 +1,8 @@
+use Rattle.point_laws.proofs.Meeting.{points_meet, run_meets}
+use Rattle.point_laws.proofs.laws.points_meet_their_equations.Goals as goal
+
+pub returns-clause-events : goal.returns-clause-events
+returns-clause-events c = λ objects options. points_meet c.solutions_are_within_tolerance.ensures objects options
+
+pub returns-clause-works : goal.returns-clause-works
+returns-clause-works c = λ objects options. run_meets c.solutions_are_within_tolerance.ensures objects options
