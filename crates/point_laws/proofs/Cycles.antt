@@ -1,5 +1,5 @@
 -- The start and each cycle of a design tell what they change of signals, thresholds and DOMAIN.
-use Rattle.std.proofs.Common.{◌≡◌, refl, sym, ap, ◌∙◌, subst, ℕ, zero, suc, ◌+◌, ◌||◌, Bool, true, false, not, ℤ, List, [], ◌∷◌, ◌++◌, length, map, append_assoc, Option, Some, None, Result, Ok, Err, arith}
+use Rattle.std.proofs.Common.{◌≡◌, refl, sym, ap, ◌∙◌, ℕ, suc, ◌+◌, ◌||◌, Bool, true, false, not, ℤ, List, [], ◌∷◌, ◌++◌, length, map, append_assoc, Option, Some, None, Result, Ok, Err, arith}
 use Rattle.std.specs.List.{slice_set}
 use Rattle.std.proofs.lemmas.List.{set_at, length_push, length-map}
 use Rattle.ams_value.specs.declared.val.Val.{Val}
@@ -19,7 +19,7 @@ use Rattle.step_data.specs.Thresholds.{is_above}
 use Rattle.step_model.specs.System.{Digital}
 use Rattle.design_meaning.specs.Readings.{Seen, still}
 use Rattle.cycle_meaning.specs.World.{World, driven_of}
-use Rattle.cycle_meaning.specs.Cycles.{changed, event_if, with_thresholds, is_on, crossings, driving, queue_in, with_driving, signal_events, world_of, kept_in, digital_of, ended, after_resumption, resumes, context_at, cycle, start, first_world, first_digital, Ran_of, all_ran, one_refused, run_all, start_all}
+use Rattle.cycle_meaning.specs.Cycles.{event_if, with_thresholds, is_on, crossings, driving, queue_in, with_driving, signal_events, world_of, kept_in, ended, after_resumption, resumes, context_at, cycle, start, first_world, first_digital, Ran_of, all_ran, one_refused, run_all, start_all}
 use Rattle.point_laws.specs.Told.{Told, told_after, told_over, EachPoint}
 use Rattle.point_laws.proofs.Telling.{over_append, each_append}
 use Rattle.point_laws.proofs.Giving.{NoPoint, Tells, ComesTo}

@@ -1,32 +1,24 @@
 -- The points of a run, with what was told before each: by the works, of any system whose events tell its digital side.
-use Rattle.std.proofs.Common.{◌≡◌, refl, sym, ap, ◌∙◌, subst, ℕ, zero, suc, ◌+◌, ◌-◌, ◌≤◌, ◌<◌, ◌==◌, ◌&&◌, ◌||◌, Bool, true, false, not, List, [], ◌∷◌, ◌++◌, length, arith}
-use Rattle.std.specs.Prelude.{ℤ, map, cond, max, nat_le, nat_lt, Option, Some, None, Result, Ok, Err}
-use Rattle.std.proofs.lemmas.Bool.Decides.{leb_tells, eqb_tells}
+use Rattle.std.proofs.Common.{◌≡◌, refl, sym, ap, ◌∙◌, ℕ, ◌-◌, ◌≤◌, ◌||◌, Bool, true, false, List, [], ◌∷◌, length}
+use Rattle.std.specs.Prelude.{ℤ, map, Some, Ok}
 use Rattle.ams_value.specs.declared.val.Val.{Val}
 use Rattle.step_data.specs.declared.tip.Tip.{Tip}
-use Rattle.step_data.specs.declared.tip.Attempt.{Attempt}
 use Rattle.step_data.specs.declared.breaks.Element.{Element}
 use Rattle.step_data.specs.declared.event.Event.{Event}
-use Rattle.step_data.specs.declared.event.Event.TheVariants as event
-use Rattle.step_data.specs.declared.outcome.Cause.{Cause}
 use Rattle.step_data.specs.declared.outcome.ChooseKind.{ChooseKind}
 use Rattle.step_data.specs.declared.outcome.ChooseKind.TheVariants.{Quiet, Timed}
 use Rattle.step_data.specs.declared.outcome.SetKind.TheVariants.{Quiescent, Discontinuity}
-use Rattle.step_data.specs.declared.outcome.Ran.{Ran}
 use Rattle.step_data.specs.declared.outcome.Ran.TheVariants as rans
-use Rattle.step_data.specs.declared.outcome.Kind.{Kind}
-use Rattle.step_data.specs.declared.outcome.Kind.TheVariants.{Accepted, Rejected, Failed}
-use Rattle.step_data.specs.Steps.{end_of, next, next_by, is_accepted, is_failed}
-use Rattle.step_model.specs.System.{System, Digital, CycleOutcome, Landing, attempt, attempt_by, rejected_by, failed_by}
+use Rattle.step_model.specs.System.{System, Digital, Landing}
 use Rattle.lockstep_model.specs.RunStates.{RunState}
 use Rattle.lockstep_model.specs.Works.{Work, Worked, Tried, Run, before, over, events_of_work}
 use Rattle.lockstep_model.specs.Works as kinds
-use Rattle.lockstep_model.specs.Crossing.{Bounds, is_near, differs, narrowed, middle, lower_half, upper_half}
+use Rattle.lockstep_model.specs.Crossing.{Bounds}
 use Rattle.lockstep_model.specs.Lockstep as l
 use Rattle.lockstep_model.specs.Lockstep.{PhaseStep, Following, phase, locate, goes_on, lockstep, frame_at}
 use Rattle.lockstep_model.specs.Solutions.{IsReached, IsSolution}
-use Rattle.point_laws.specs.Told.{Told, told_after, told_over, EachPoint}
-use Rattle.point_laws.proofs.Telling.{over_append, each_append, named, all_named, point_told, point_holds}
+use Rattle.point_laws.specs.Told.{Told, told_over, EachPoint}
+use Rattle.point_laws.proofs.Telling.{named, all_named, point_told, point_holds}
 
 -- ---- what the events of a system tell
 

@@ -1,6 +1,6 @@
 -- Each point of a run of a design meets its equations.
-use Rattle.std.proofs.Common.{◌≡◌, ◌≤◌, refl, sym, ap, ◌∙◌, subst, ℕ, zero, suc, ◌+◌, ◌-◌, Bool, true, false, List, [], ◌∷◌, ◌++◌, length, map, Result, Ok, Err, arith}
-use Rattle.std.specs.Prelude.{ℤ, unsigned_abs, if◌then◌else◌, replicate, Some, None, IsOkAnd}
+use Rattle.std.proofs.Common.{◌≡◌, ◌≤◌, refl, sym, ap, ◌∙◌, subst, ℕ, suc, ◌+◌, ◌-◌, Bool, true, false, List, [], ◌∷◌, ◌++◌, length, map, append_assoc, Result, Ok, Err, arith}
+use Rattle.std.specs.Prelude.{ℤ, unsigned_abs, if◌then◌else◌, Some, IsOkAnd}
 use Rattle.std.specs.List.{All, slice_index_or}
 use Rattle.std.proofs.lemmas.List.{length-map}
 use Rattle.std.proofs.lemmas.List.Elements.{All-nil, All-cons, All-head, All-tail}
@@ -9,20 +9,18 @@ use Rattle.ams_value.specs.declared.val.Val.{Val}
 use Rattle.ams_value.specs.declared.val.Val.TheVariants as val
 use Rattle.flat_expr.specs.declared.expr.SignalName.{SignalName}
 use Rattle.flat_expr.specs.declared.expr.SignalName.TheVariants as name
-use Rattle.flat_design.specs.declared.objects.Selection.{Selection}
 use Rattle.flat_design.specs.declared.objects.Threshold.{Threshold}
 use Rattle.flat_design.specs.declared.objects.Objects.{Objects}
 use Rattle.flat_design.specs.Reads.{frame_of}
-use Rattle.step_data.specs.declared.tip.Tip.{Tip}
 use Rattle.step_data.specs.declared.breaks.Element.{Element}
 use Rattle.step_data.specs.declared.event.Event.{Event}
+use Rattle.step_data.specs.declared.event.Event.TheVariants as event
 use Rattle.step_data.specs.declared.outcome.Cause.{Cause}
 use Rattle.step_data.specs.declared.outcome.Options.{Options}
 use Rattle.step_data.specs.declared.outcome.ChooseKind.{ChooseKind}
 use Rattle.step_data.specs.declared.outcome.ChooseKind.TheVariants.{Quiet, Timed}
-use Rattle.step_data.specs.declared.outcome.SetKind.{SetKind}
 use Rattle.step_data.specs.declared.outcome.SetKind.TheVariants.{Quiescent, Discontinuity}
-use Rattle.step_model.specs.System.{Digital, Landing}
+use Rattle.step_model.specs.System.{Digital}
 use Rattle.lockstep_model.specs.RunStates.{RunState}
 use Rattle.lockstep_model.specs.Works.{Work, Worked, Tried, events_of, events_of_work}
 use Rattle.lockstep_model.specs.Works as kinds
@@ -30,14 +28,15 @@ use Rattle.lockstep_model.specs.Lockstep as l
 use Rattle.design_meaning.specs.declared.fault.EvalFault.{EvalFault}
 use Rattle.design_meaning.specs.Equations.{Row, Augmentation, residual_of, common_rows, rows_of, augmentations_from}
 use Rattle.design_meaning.specs.Reading.{quiescent_domain, time_domain, readings_of}
-use Rattle.design_meaning.specs.Newton.{Problem, of_evaluation}
+use Rattle.design_meaning.specs.Newton.{of_evaluation}
 use Rattle.design_meaning.specs.Steps.{choose, branch_chosen, selections_of, kind_of_set, problem}
-use Rattle.design_meaning.specs.Solutions.{IsWithinTolerance, Solves, LandsWithin, SettlesWithin, SolutionsAreWithinTolerance}
+use Rattle.design_meaning.specs.Solutions.{Solves, LandsWithin, SettlesWithin, SolutionsAreWithinTolerance}
 use Rattle.cycle_meaning.specs.Cycles.{value_in, frame, first_digital}
 use Rattle.system_model.specs.System.{system_of}
-use Rattle.point_laws.specs.Told.{Told, told_after, told_over, EachPoint}
-use Rattle.point_laws.specs.Points.{first_told, told_value, told_frame, domain_kind, IsMet, PointMeets, EventsMeet, PointsMeet, IsToldAt, set_in, elements_in, IsSolvedIn, IsSteppedIn, WorkMeets, WorksMeet, RunMeets}
-use Rattle.point_laws.proofs.Telling.{each_append, each_front, each_map, none_named}
+use Rattle.system_model.specs.Trace.{run_of, trace}
+use Rattle.point_laws.specs.Told.{Told, told_over, EachPoint}
+use Rattle.point_laws.specs.Points.{first_told, told_value, told_frame, domain_kind, IsMet, PointMeets, EventsMeet, PointsMeet, TextMeets, IsToldAt, set_in, elements_in, IsSolvedIn, IsSteppedIn, WorkMeets, WorksMeet, RunMeets}
+use Rattle.point_laws.proofs.Telling.{each_append, each_at, each_map, none_named}
 use Rattle.point_laws.proofs.Giving.{Tells, IsChosen, Speaks, IsSettled, IsStepped, IsGiven, AreGiven}
 use Rattle.point_laws.proofs.Cycles.{cycle_points, cycle_comes, start_points, start_comes}
 use Rattle.point_laws.proofs.Running.{lockstep_gives}
@@ -209,9 +208,10 @@ module _ (within : SolutionsAreWithinTolerance) (objects : Objects) (options : O
   works_meet told [] [] h = tt
   works_meet told [] (p ∷ states) h = absurd h
   works_meet told (w ∷ works) [] h = absurd h
-  works_meet told (w ∷ works) (p ∷ states) h =
-      (each_map (IsGiven (system_of objects options) (length objects.thresholds) w p) (WorkMeets objects options w p) (work_meets w p) told (events_of_work w) h.0,
-      works_meet (told_over told (events_of_work w)) works states h.1)
+  works_meet told (w ∷ works) (p ∷ states) h = (
+    each_map (IsGiven (system_of objects options) (length objects.thresholds) w p) (WorkMeets objects options w p) (work_meets w p) told (events_of_work w) h.0,
+    works_meet (told_over told (events_of_work w)) works states h.1,
+  )
 
   points_of : (told : Told) (works : List Work) (states : List RunState) → WorksMeet objects options told works states → EachPoint (PointMeets objects options) told (events_of works)
   points_of told [] [] h = tt
@@ -231,7 +231,13 @@ module _ (within : SolutionsAreWithinTolerance) (objects : Objects) (options : O
       (lockstep_gives (system_of objects options) (length objects.thresholds) speaks (first_told objects) first_tells (sym (none_named (length (selections_of objects.equations)))))
 
   pub points_meet : PointsMeet objects options
-  points_meet = points_of (first_told objects) _ _ run_meets
+  points_meet front behind t n x e =
+      each_at (PointMeets objects options) (first_told objects) front behind t n x
+      (subst (λ (events : List Event). EachPoint (PointMeets objects options) (first_told objects) events) e (points_of (first_told objects) _ _ run_meets))
 
-pub fronts_meet : (objects : Objects) (options : Options) (front rest : List Event) → EventsMeet objects options (front ++ rest) → EventsMeet objects options front
-fronts_meet objects options front rest h = each_front (PointMeets objects options) (first_told objects) front rest h
+  pub texts_meet : (top : List ℕ) → TextMeets objects top options (trace objects top options)
+  texts_meet top = record { events = events_of (run_of objects options).works; last = (run_of objects options).end; text_is = refl; meets = points_meet }
+
+pub fronts_meet : (objects : Objects) (options : Options) (some more : List Event) → EventsMeet objects options (some ++ more) → EventsMeet objects options some
+fronts_meet objects options some more h front behind t n x e =
+    h front (behind ++ more) t n x (ap (λ (events : List Event). events ++ more) e ∙ append_assoc front (event.Solved t n x ∷ behind) more)

@@ -1,28 +1,26 @@
 -- The points of a run are given as `Giving` says, by the definition of lockstep.
-use Rattle.std.proofs.Common.{◌≡◌, refl, sym, ap, ◌∙◌, subst, ℕ, zero, suc, ◌+◌, ◌-◌, ◌≤◌, ◌<◌, ◌==◌, ◌&&◌, ◌||◌, Bool, true, false, not, List, [], ◌∷◌, ◌++◌, length, arith}
-use Rattle.std.specs.Prelude.{◌/◌, ℤ, map, cond, max, nat_le, nat_lt, Option, Some, None, Result, Ok, Err}
-use Rattle.std.proofs.lemmas.Bool.Decides.{leb_tells, eqb_tells}
+use Rattle.std.proofs.Common.{◌≡◌, refl, sym, ap, ◌∙◌, subst, ℕ, zero, suc, ◌+◌, ◌-◌, ◌≤◌, ◌<◌, ◌==◌, ◌&&◌, ◌||◌, Bool, true, false, not, List, [], length, arith}
+use Rattle.std.specs.Prelude.{◌/◌, ℤ, cond, nat_le, nat_lt, Option, Some, None, Result, Ok, Err}
+use Rattle.std.proofs.lemmas.Bool.Decides.{leb_tells}
 use Rattle.step_data.specs.declared.tip.Tip.{Tip}
 use Rattle.step_data.specs.declared.tip.Attempt.{Attempt}
 use Rattle.step_data.specs.declared.event.Event.{Event}
 use Rattle.step_data.specs.declared.outcome.Cause.{Cause}
-use Rattle.step_data.specs.declared.outcome.ChooseKind.TheVariants.{Quiet, Timed}
 use Rattle.step_data.specs.declared.outcome.Ran.{Ran}
 use Rattle.step_data.specs.declared.outcome.Ran.TheVariants as rans
 use Rattle.step_data.specs.declared.outcome.Kind.{Kind}
 use Rattle.step_data.specs.declared.outcome.Kind.TheVariants.{Accepted, Rejected, Failed}
-use Rattle.step_data.specs.Steps.{end_of, next, next_by, is_accepted, is_failed}
-use Rattle.step_model.specs.System.{System, Digital, Landing, attempt, attempt_by, rejected_by, failed_by}
+use Rattle.step_data.specs.Steps.{end_of, next_by, is_accepted, is_failed}
+use Rattle.step_model.specs.System.{System, Landing, attempt, attempt_by, rejected_by, failed_by}
 use Rattle.lockstep_model.specs.RunStates.{RunState}
-use Rattle.lockstep_model.specs.Works.{Work, Worked, Tried, Run, before, over, events_of_work}
-use Rattle.lockstep_model.specs.Works as kinds
+use Rattle.lockstep_model.specs.Works.{Run}
 use Rattle.lockstep_model.specs.Crossing.{Bounds, is_near, differs, narrowed, middle, lower_half, upper_half}
 use Rattle.lockstep_model.specs.Lockstep as l
 use Rattle.lockstep_model.specs.Lockstep.{PhaseStep, Following, phase, locate, goes_on, lockstep, frame_at, attempt_end, phase_step, following}
-use Rattle.lockstep_model.specs.Solutions.{IsReached, IsSolution}
-use Rattle.point_laws.specs.Told.{Told, told_after, told_over, EachPoint}
-use Rattle.point_laws.proofs.Telling.{over_append, each_append, named, all_named, point_told, point_holds}
-use Rattle.point_laws.proofs.Giving.{Tells, NoPoint, ComesTo, IsChosen, Speaks, IsSettled, IsStepped, IsGiven, AreGiven, Gives, Agrees, IsPlaced, InPhase, Arrives, GoesOn, IsBetween, Point, step_point, agrees_behind, chosen_branches}
+use Rattle.lockstep_model.specs.Solutions.{IsReached}
+use Rattle.point_laws.specs.Told.{Told, told_over, EachPoint}
+use Rattle.point_laws.proofs.Telling.{named, point_holds}
+use Rattle.point_laws.proofs.Giving.{Tells, IsChosen, Speaks, IsSettled, IsStepped, AreGiven, Gives, Agrees, IsPlaced, InPhase, Arrives, GoesOn, IsBetween, Point, step_point, agrees_behind, chosen_branches}
 
 module _ (sys : System) (n : ℕ) (speaks : Speaks sys n) where
   -- ---- the search of a crossing
@@ -321,15 +319,15 @@ module _ (sys : System) (n : ℕ) (speaks : Speaks sys n) where
       let comes = speaks.cycled told p.digital p.time p.delta p.point to_time broke placed.agrees.tells e in (
         speaks.cycles told p.digital p.time p.delta p.point to_time placed.agrees.tells,
         arrives (told_over told (l.cycle_at sys to_time p).events) (l.cycled sys to_time p broke)
-        (record {
-          agrees = record {
-            tells = comes.tells;
-            timed_is = comes.timed_is ∙ ap (λ b. b || to_time) placed.agrees.timed_is;
-            branches_are = comes.branches ∙ placed.agrees.branches_are;
-          };
-          tip = tip-within (l.renews sys to_time p broke) p p.point placed.tip;
-          within = placed.within;
-        }),
+            (record {
+              agrees = record {
+                tells = comes.tells;
+                timed_is = comes.timed_is ∙ ap (λ b. b || to_time) placed.agrees.timed_is;
+                branches_are = comes.branches ∙ placed.agrees.branches_are;
+              };
+              tip = tip-within (l.renews sys to_time p broke) p p.point placed.tip;
+              within = placed.within;
+            }),
       )
   cycled_run-gives rest arrives to_time told p (rans.Refused refusal) e placed =
       (speaks.cycles told p.digital p.time p.delta p.point to_time placed.agrees.tells, tt)
@@ -359,9 +357,11 @@ module _ (sys : System) (n : ℕ) (speaks : Speaks sys n) where
 
   solved_run-gives : (cycle : RunState → Run) → Arrives sys n cycle → (told : Told) (p : RunState) (o : Result (List ℤ) Cause) → l.solution sys p ≡ o → IsPlaced sys n told p → Gives sys n told (l.solved_run sys cycle p o)
   solved_run-gives cycle arrives told p (Ok x) e placed =
-      let point = settled-point told p x placed.agrees e in
-      (point.holds, arrives (told_over told (l.point_events p.time p.delta x (l.solution_branches sys p) p.branches)) (l.solved_at sys p x)
-      (record { agrees = point.agrees; tip = tip-within p.timed p x placed.tip; within = placed.within }))
+      let point = settled-point told p x placed.agrees e in (
+        point.holds,
+        arrives (told_over told (l.point_events p.time p.delta x (l.solution_branches sys p) p.branches)) (l.solved_at sys p x)
+            (record { agrees = point.agrees; tip = tip-within p.timed p x placed.tip; within = placed.within }),
+      )
   solved_run-gives cycle arrives told p (Err c) e placed = (tt, tt)
 
   delta_by-gives : (needs : Bool) (cycle : RunState → Run) → Arrives sys n cycle → Arrives sys n (l.delta_by needs sys cycle)
@@ -386,11 +386,11 @@ module _ (sys : System) (n : ℕ) (speaks : Speaks sys n) where
       let comes = speaks.started told broke tells e in (
         speaks.starts told tells,
         goes_on-gives sys.cycles sys.tries (told_over told (l.first_cycle sys).events) (l.first_place sys broke)
-        (record {
-          agrees = record { tells = comes.tells; timed_is = comes.timed_is; branches_are = comes.branches ∙ none };
-          tip = omega arith;
-          within = omega arith;
-        }),
+            (record {
+              agrees = record { tells = comes.tells; timed_is = comes.timed_is; branches_are = comes.branches ∙ none };
+              tip = omega arith;
+              within = omega arith;
+            }),
       )
   started_run-gives told (rans.Refused refusal) e tells none = (speaks.starts told tells, tt)
 

@@ -1,9 +1,9 @@
 -- What events tell, one list behind another, and the branches before a point.
-use Rattle.std.proofs.Common.{◌≡◌, refl, sym, ap, ◌∙◌, subst, ℕ, zero, suc, ◌+◌, ◌==◌, Bool, true, false, List, [], ◌∷◌, ◌++◌, length, append_assoc, arith}
+use Rattle.std.proofs.Common.{◌≡◌, refl, sym, ap, ◌∙◌, subst, ℕ, zero, suc, ◌+◌, ◌==◌, true, false, List, [], ◌∷◌, ◌++◌, length, append_assoc, arith}
 use Rattle.std.specs.Prelude.{ℤ, map, replicate, Option, Some, None}
 use Rattle.std.specs.List.{slice_set}
 use Rattle.std.proofs.lemmas.Bool.Decides.{eqb_tells}
-use Rattle.std.proofs.lemmas.List.{set_at, length_push, append-nil}
+use Rattle.std.proofs.lemmas.List.{set_at, length_push}
 use Rattle.step_data.specs.declared.event.Event.{Event}
 use Rattle.step_data.specs.declared.event.Event.TheVariants as event
 use Rattle.lockstep_model.specs.Lockstep.{branch_event, branch_events, point_events}
@@ -23,16 +23,16 @@ each_append P told (event.Broke t n elements ∷ xs) ys a b = each_append P (tol
 each_append P told (event.Report t n severity text ∷ xs) ys a b = each_append P (told_after told (event.Report t n severity text)) xs ys a b
 each_append P told (event.Branch t n k c ∷ xs) ys a b = each_append P (told_after told (event.Branch t n k c)) xs ys a b
 
--- the points of a front
-pub each_front : (P : Told → ℕ → List ℤ → Type 0) (told : Told) (xs ys : List Event) → EachPoint P told (xs ++ ys) → EachPoint P told xs
-each_front P told [] ys a = tt
-each_front P told (event.Solved t n x ∷ xs) ys a = (a.0, each_front P told xs ys a.1)
-each_front P told (event.Domain t n ∷ xs) ys a = each_front P (told_after told (event.Domain t n)) xs ys a
-each_front P told (event.Cross t n k on ∷ xs) ys a = each_front P (told_after told (event.Cross t n k on)) xs ys a
-each_front P told (event.Signal t n i value ∷ xs) ys a = each_front P (told_after told (event.Signal t n i value)) xs ys a
-each_front P told (event.Broke t n elements ∷ xs) ys a = each_front P (told_after told (event.Broke t n elements)) xs ys a
-each_front P told (event.Report t n severity text ∷ xs) ys a = each_front P (told_after told (event.Report t n severity text)) xs ys a
-each_front P told (event.Branch t n k c ∷ xs) ys a = each_front P (told_after told (event.Branch t n k c)) xs ys a
+-- the point behind some events
+pub each_at : (P : Told → ℕ → List ℤ → Type 0) (told : Told) (front behind : List Event) (t n : ℕ) (x : List ℤ) → EachPoint P told (front ++ event.Solved t n x ∷ behind) → P (told_over told front) t x
+each_at P told [] ys t n x a = a.0
+each_at P told (event.Solved u m y ∷ xs) ys t n x a = each_at P told xs ys t n x a.1
+each_at P told (event.Domain u m ∷ xs) ys t n x a = each_at P (told_after told (event.Domain u m)) xs ys t n x a
+each_at P told (event.Cross u m k on ∷ xs) ys t n x a = each_at P (told_after told (event.Cross u m k on)) xs ys t n x a
+each_at P told (event.Signal u m i value ∷ xs) ys t n x a = each_at P (told_after told (event.Signal u m i value)) xs ys t n x a
+each_at P told (event.Broke u m elements ∷ xs) ys t n x a = each_at P (told_after told (event.Broke u m elements)) xs ys t n x a
+each_at P told (event.Report u m severity text ∷ xs) ys t n x a = each_at P (told_after told (event.Report u m severity text)) xs ys t n x a
+each_at P told (event.Branch u m k c ∷ xs) ys t n x a = each_at P (told_after told (event.Branch u m k c)) xs ys t n x a
 
 -- what follows from one fact of each point
 pub each_map : (P Q : Told → ℕ → List ℤ → Type 0) → ((told : Told) (t : ℕ) (x : List ℤ) → P told t x → Q told t x) → (told : Told) (events : List Event) → EachPoint P told events → EachPoint Q told events

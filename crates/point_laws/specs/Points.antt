@@ -1,6 +1,6 @@
 -- Each point that a run gives meets its equations: by the lines of the trace alone, and by the set, the step and the method
 -- by which it was found.
-use Rattle.std.specs.Prelude.{◌≡◌, ◌≤◌, ℕ, ◌-◌, Bool, true, false, ℤ, unsigned_abs, if◌then◌else◌, List, [], ◌∷◌, length, map, replicate, Some, None, IsOkAnd}
+use Rattle.std.specs.Prelude.{◌≡◌, ◌≤◌, ℕ, ◌-◌, Bool, true, false, ℤ, unsigned_abs, if◌then◌else◌, List, [], ◌∷◌, ◌++◌, length, map, replicate, Some, None, IsOkAnd}
 use Rattle.std.specs.List.{All, slice_index_or}
 use Rattle.ams_value.specs.declared.val.Val.{Val}
 use Rattle.ams_value.specs.declared.val.Val.TheVariants as val
@@ -12,6 +12,8 @@ use Rattle.flat_design.specs.declared.objects.Objects.{Objects}
 use Rattle.flat_design.specs.Reads.{frame_of}
 use Rattle.step_data.specs.declared.breaks.Element.{Element}
 use Rattle.step_data.specs.declared.event.Event.{Event}
+use Rattle.step_data.specs.declared.event.Event.TheVariants as event
+use Rattle.step_data.specs.declared.outcome.End.{End}
 use Rattle.step_data.specs.declared.outcome.Options.{Options}
 use Rattle.step_data.specs.declared.outcome.ChooseKind.{ChooseKind}
 use Rattle.step_data.specs.declared.outcome.ChooseKind.TheVariants.{Quiet, Timed}
@@ -26,6 +28,7 @@ use Rattle.design_meaning.specs.Reading.{quiescent_domain, time_domain, readings
 use Rattle.design_meaning.specs.Steps.{selections_of}
 use Rattle.design_meaning.specs.Solutions.{LandsWithin, SettlesWithin}
 use Rattle.cycle_meaning.specs.Cycles.{frame}
+use Rattle.trace_text.specs.Trace.{trace_text}
 use Rattle.system_model.specs.Trace.{run_of}
 use Rattle.point_laws.specs.Told.{Told, told_over, EachPoint}
 
@@ -68,13 +71,21 @@ pub record PointMeets (objects : Objects) (options : Options) (told : Told) (t :
   pub named : told.branches ≡ map Some branches
   pub meets : All (IsMet objects options told t x) (common_rows objects branches)
 
--- so does each point among some events of a run, from its first one on
+-- so does each point among some events of a run, from its first one on, by the events in front of it
 abbrev pub EventsMeet : Objects → Options → List Event → Type 0
-EventsMeet objects options events = EachPoint (PointMeets objects options) (first_told objects) events
+EventsMeet objects options events =
+    (front behind : List Event) (t n : ℕ) (x : List ℤ) → events ≡ front ++ event.Solved t n x ∷ behind → PointMeets objects options (told_over (first_told objects) front) t x
 
 -- each point of a run
 abbrev pub PointsMeet : Objects → Options → Type 0
 PointsMeet objects options = EventsMeet objects options (events_of (run_of objects options).works)
+
+-- a text is a trace with these options whose points do
+pub record TextMeets (objects : Objects) (top : List ℕ) (options : Options) (text : List ℕ) : Type 0 where
+  pub events : List Event
+  pub last : End
+  pub text_is : text ≡ trace_text objects top options events last
+  pub meets : EventsMeet objects options events
 
 -- ---- a point, by the state in which its work begins
 
