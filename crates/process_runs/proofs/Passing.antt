@@ -1,5 +1,5 @@
 -- Processes that aren't marked are passed over.
-use Rattle.std.proofs.Common.{◌≡◌, refl, sym, ◌∙◌, ap, ℕ, zero, suc, ◌+◌, ◌-◌, ◌<◌, ◌≤◌, Bool, false, List, length, arith}
+use Rattle.std.proofs.Common.{◌≡◌, sym, ◌∙◌, ap, ℕ, zero, suc, ◌+◌, ◌-◌, ◌<◌, ◌≤◌, Bool, false, List, length, arith}
 use Rattle.flat_design.specs.declared.objects.Process.{Process}
 use Rattle.step_model.specs.System.{ProcessState}
 use Rattle.cycle_meaning.specs.World.{World, Context}

@@ -1,4 +1,4 @@
-use Rattle.std.proofs.Common.{◌≡◌, ◌∙◌, subst, ℕ, length, get_or, arith}
+use Rattle.std.proofs.Common.{◌≡◌, subst, ℕ, length, get_or}
 use Rattle.std.proofs.lemmas.List.{get_or_default, get_or_past}
 use Rattle.cycle_meaning.specs.Cycles.{run_all}
 use Rattle.kernel_world.specs.Acting.{context_of, world_of}
