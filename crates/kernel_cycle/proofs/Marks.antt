@@ -21,11 +21,11 @@ one_taken called i n marks number within left k set =
     elim (cases_eq k n) [
       | inl same ↦ let none : get_or (slice_set marks n false) k false ≡ false = rw same (get_or-set_same marks n false false within) in absurd (cc)
       | inr other ↦
-        let before = left k (sym (get_or-set_other marks n k false false other) ∙ set) in
-        elim (cases_eq i before.0) [
-          | inl here ↦ absurd (other (sym before.3 ∙ ap (λ p. get_or called p 0) (sym here) ∙ sym number))
-          | inr behind ↦ (before.0, omega (arith, before.1, behind), before.2, before.3)
-        ]
+          let before = left k (sym (get_or-set_other marks n k false false other) ∙ set) in
+          elim (cases_eq i before.0) [
+            | inl here ↦ absurd (other (sym before.3 ∙ ap (λ p. get_or called p 0) (sym here) ∙ sym number))
+            | inr behind ↦ (before.0, omega (arith, before.1, behind), before.2, before.3)
+          ]
     ]
 
 either : (b : Bool) → (b ≡ true) ⊎ (b ≡ false)

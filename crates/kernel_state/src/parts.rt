@@ -153,11 +153,6 @@ impl<'a> KernelParts<'a> {
         let calls = Held::new(calls_of(alloc, flat)?);
         let sleepers = Held::new(sleepers_of(alloc, flat)?);
         let world = first_world(alloc, flat)?;
-        Ok(joined(
-            alloc,
-            world,
-            sleepers.into_inner(),
-            calls.into_inner(),
-        ))
+        Ok(joined(alloc, world, sleepers.into_inner(), calls.into_inner()))
     }
 }

@@ -53,10 +53,10 @@ none_first count called marks are k from to =
     elim (either (get_or marks k false)) [
       | inr not ↦ not
       | inl set ↦
-        let in_list : Contains called k = are.marked k set in
-        let at : get_or called in_list.0 0 ≡ k = get_or_default called in_list.0 0 k in_list.1 ∙ in_list.2 in
-        let least : next_called called count 0 ≤ get_or called in_list.0 0 = next_least count called are.rises 0 in_list.0 (omega arith) in_list.1 in
-        absurd (omega (arith, at, least, to))
+          let in_list : Contains called k = are.marked k set in
+          let at : get_or called in_list.0 0 ≡ k = get_or_default called in_list.0 0 k in_list.1 ∙ in_list.2 in
+          let least : next_called called count 0 ≤ get_or called in_list.0 0 = next_least count called are.rises 0 in_list.0 (omega arith) in_list.1 in
+          absurd (omega (arith, at, least, to))
     ]
 
 -- the number of the next place is greater
@@ -64,14 +64,14 @@ pub next_behind : (count : ℕ) (called : List ℕ) (marks : List Bool) (i n : �
 next_behind count called marks i n are h number =
     elim (cases_lt (i + 1) (length called)) [
       | inl there ↦
-        let less : get_or called i 0 < get_or called (i + 1) 0 = are.rises i there in
-        let here : get_or called i count ≡ get_or called i 0 = get_or_default called i count 0 h in
-        let next : get_or called (i + 1) count ≡ get_or called (i + 1) 0 = get_or_default called (i + 1) count 0 there in
-        omega (arith, less, here, next, number)
+          let less : get_or called i 0 < get_or called (i + 1) 0 = are.rises i there in
+          let here : get_or called i count ≡ get_or called i 0 = get_or_default called i count 0 h in
+          let next : get_or called (i + 1) count ≡ get_or called (i + 1) 0 = get_or_default called (i + 1) count 0 there in
+          omega (arith, less, here, next, number)
       | inr past ↦
-        let all : get_or called (i + 1) count ≡ count = get_or_past called (i + 1) count past in
-        let within : get_or called i count < count = are.within i count h in
-        omega (arith, all, within, number)
+          let all : get_or called (i + 1) count ≡ count = get_or_past called (i + 1) count past in
+          let within : get_or called i count < count = are.within i count h in
+          omega (arith, all, within, number)
     ]
 
 pub none_between : (count : ℕ) (called : List ℕ) (marks : List Bool) (i n : ℕ) → MarksAreCalled count called marks → i < length called → next_called called count i ≡ n → AreUnmarked marks (n + 1) (next_called called count (i + 1))
@@ -79,15 +79,15 @@ none_between count called marks i n are h number k from to =
     elim (either (get_or marks k false)) [
       | inr not ↦ not
       | inl set ↦
-        let in_list : Contains called k = are.marked k set in
-        let at : get_or called in_list.0 0 ≡ k = get_or_default called in_list.0 0 k in_list.1 ∙ in_list.2 in
-        elim (cases_lt i in_list.0) [
-          | inl later ↦
-            let least : next_called called count (i + 1) ≤ get_or called in_list.0 0 = next_least count called are.rises (i + 1) in_list.0 (omega (arith, later)) in_list.1 in
-            absurd (omega (arith, at, least, to))
-          | inr before ↦
-            let least : next_called called 0 in_list.0 ≤ get_or called i 0 = next_least 0 called are.rises in_list.0 i before h in
-            let here : get_or called i count ≡ get_or called i 0 = get_or_default called i count 0 h in
-            absurd (omega (arith, at, least, here, number, from))
-        ]
+          let in_list : Contains called k = are.marked k set in
+          let at : get_or called in_list.0 0 ≡ k = get_or_default called in_list.0 0 k in_list.1 ∙ in_list.2 in
+          elim (cases_lt i in_list.0) [
+            | inl later ↦
+                let least : next_called called count (i + 1) ≤ get_or called in_list.0 0 = next_least count called are.rises (i + 1) in_list.0 (omega (arith, later)) in_list.1 in
+                absurd (omega (arith, at, least, to))
+            | inr before ↦
+                let least : next_called called 0 in_list.0 ≤ get_or called i 0 = next_least 0 called are.rises in_list.0 i before h in
+                let here : get_or called i count ≡ get_or called i 0 = get_or_default called i count 0 h in
+                absurd (omega (arith, at, least, here, number, from))
+          ]
     ]
