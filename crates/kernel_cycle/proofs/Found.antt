@@ -1,6 +1,8 @@
 -- Which processes resume, in a world whose events were lent out.
 use Rattle.std.proofs.Common.{◌≡◌, refl, ap, sym, ◌∙◌, subst, ℕ, ◌<◌, Bool, List, [], ◌∷◌, map, length, Option, Result, Ok, Err, arith}
-use Rattle.std.specs.List.{All}
+use Rattle.std.specs.Prelude.{slice_index_or, true, false}
+use Rattle.std.specs.List.{All, Contains}
+use Rattle.std.specs.List.Sorted.{IsStrictlyIncreasing}
 use Rattle.flat_design.specs.declared.objects.Process.{Process}
 use Rattle.step_data.specs.declared.event.Event.{Event}
 use Rattle.step_data.specs.declared.outcome.Refusal.{Refusal}
@@ -9,6 +11,7 @@ use Rattle.cycle_meaning.specs.World.{World as CycleWorld, Context}
 use Rattle.cycle_meaning.specs.Cycles.{resumes, run_all, ended, after_resumption}
 use Rattle.next_cycle.specs.Next.{timeouts_of}
 use Rattle.process_runs.specs.Kept.{Kept, numbered, states_kept, CanRun}
+use Rattle.process_runs.specs.Called.{MarksAreCalled}
 use Rattle.process_runs.specs.Sleeping.{asleep}
 use Rattle.resumption.specs.Sleeps.{Sleep, waits_of}
 use Rattle.resumption.specs.Waits.{AreWaits, answered}
@@ -99,3 +102,15 @@ pub called_here : (here later : Context) (w v : CycleWorld) (c : Lists) (ps : Li
 called_here here later w v c ps ks times now called ec ew moment count timeouts events calls =
     subst (λ (n : ℕ). AreCalled (numbered later) v (callers_of n c) (map asleep ks) called) (times_count ps ks times count timeouts ∙ sym count)
     (calls (numbered later) v (map asleep ks) here.n (λ k. ap (λ (h : Context). h.t) ec ∙ moment) (slept_times ps ks times count timeouts) (events_here c w v now here.n w.events ew events))
+
+-- only those that are called are marked
+pub marks_here : (here later : Context) (ps : List Process) (ks : List Kept) (times : List (Option ℕ)) (called slice : List ℕ) (new marks : List Bool) → later ≡ here → ps ≡ here.objects.processes → slice ≡ called → marks ≡ new
+    → length ks ≡ length ps → times ≡ timeouts_of (states_kept ps ks) → IsStrictlyIncreasing called → All (λ (k : ℕ). k < length times) called
+    → ((k : ℕ) → slice_index_or new k false ≡ true → Contains slice k) → MarksAreCalled (length later.objects.processes) called marks
+marks_here here later ps ks times called slice new marks ec same es em count timeouts rises within marked = record {
+  rises = rises;
+  within = subst (λ (n : ℕ). All (λ (k : ℕ). k < n) called)
+      (times_count ps ks times count timeouts ∙ ap (λ (l : List Process). length l) same ∙ ap (λ (h : Context). length h.objects.processes) (sym ec)) within;
+  marked = subst (λ (l : List Bool). (k : ℕ) → slice_index_or l k false ≡ true → Contains called k) (sym em)
+      (subst (λ (l : List ℕ). (k : ℕ) → slice_index_or new k false ≡ true → Contains l k) es marked);
+}

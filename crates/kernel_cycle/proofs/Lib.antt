@@ -5,3 +5,4 @@ pub mod Found
 pub mod Starts
 pub mod GoesOn
 pub mod Runs
+pub mod Marks

@@ -1,5 +1,5 @@
 -- The runs of a cycle, and what they leave.
-use Rattle.std.proofs.Common.{◌≡◌, refl, ap, sym, ◌∙◌, subst, ℕ, suc, ◌<◌, ◌^◌, Bool, List, [], ◌∷◌, map, length, Option, Ok, Err}
+use Rattle.std.proofs.Common.{◌≡◌, refl, ap, sym, ◌∙◌, subst, ℕ, suc, Bool, List, [], ◌∷◌, map, length, Option, Ok, Err}
 use Rattle.std.specs.Prelude.{replicate, false}
 use Rattle.flat_design.specs.declared.objects.Process.{Process}
 use Rattle.step_model.specs.System.{Digital}
@@ -28,9 +28,6 @@ due_length now (t ∷ times) = ap suc (due_length now times)
 
 pub due_count : (now : ℕ) (ps : List Process) (ks : List Kept) (times : List (Option ℕ)) → length ks ≡ length ps → times ≡ map (unless_due now) (timeouts_of (states_kept ps ks)) → length times ≡ length ps
 due_count now ps ks times count e = ap length e ∙ due_length now (timeouts_of (states_kept ps ks)) ∙ times_length (states_kept ps ks) ∙ states_length ps ks count
-
-pub few_times : (times : List (Option ℕ)) (ps : List Process) → length times ≡ length ps → length ps < 2 ^ 32 → length times < 2 ^ 32
-few_times times ps e h = subst (λ (n : ℕ). n < 2 ^ 32) (sym e) h
 
 -- ---- the processes are those of the design
 

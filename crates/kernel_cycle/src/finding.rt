@@ -1,8 +1,9 @@
 //! Which processes resume in a cycle that began.
-ghost use Rattle.std.specs.Prelude.{◌≡◌, length, map};
+ghost use Rattle.std.specs.Prelude.{◌≡◌, length, map, OnOk};
 ghost use Rattle.cycle_meaning.specs.Cycles.{resumes};
 ghost use Rattle.kernel_world.specs.Acting.{context_of, local_of, world_of};
 ghost use Rattle.next_cycle.specs.Next.{timeouts_of, NoneIsEarlier};
+ghost use Rattle.process_runs.specs.Called.{MarksAreCalled};
 ghost use Rattle.process_runs.specs.Kept.{numbered, CanRun};
 ghost use Rattle.process_callers.specs.Calling.{unless_due, AreEvents};
 ghost use Rattle.kernel_state.specs.State.{objects_of, states_of, IsBuilt};
@@ -14,7 +15,7 @@ use fix_core::Tick;
 use kernel_state::KernelParts;
 use statement_lists::ListFault;
 
-/// Finds which processes resume, of those that are called. The timeouts that are due are taken out.
+/// Finds which processes resume, of those that are called, and marks them. The timeouts that are due are taken out.
 pub fn find_resumed(parts: &mut KernelParts, now: Tick) -> Result<(), ListFault>
     requires moment { (context_of parts.old.world).t ≡ now }
     requires built { IsBuilt parts.old }
@@ -23,6 +24,7 @@ pub fn find_resumed(parts: &mut KernelParts, now: Tick) -> Result<(), ListFault>
     requires early { NoneIsEarlier now parts.old.timeouts }
     requires events { AreEvents parts.old.callers (world_of parts.old.world) now (context_of parts.old.world).n (world_of parts.old.world).events }
     ensures found { FindEnds (resumes (numbered (context_of parts.old.world)) (world_of parts.old.world) 0 (objects_of parts.old).processes (states_of parts.old)) parts.new.resumed.items (parts.new.timeouts ≡ map (unless_due now) parts.old.timeouts) result }
+    ensures called { OnOk result (MarksAreCalled (length (objects_of parts.new).processes) parts.new.called.items parts.new.resumed.items) }
     ensures count { length parts.new.resumed.items ≡ length parts.old.resumed.items }
     ensures context { context_of parts.new.world ≡ context_of parts.old.world }
     ensures local { local_of parts.new.world ≡ local_of parts.old.world }

@@ -1,6 +1,6 @@
 //! A look at the processes that are called.
-ghost use Rattle.std.specs.Prelude.{◌≡◌, ◌<◌, length, map, replicate, false};
-ghost use Rattle.std.specs.List.{All};
+ghost use Rattle.std.specs.Prelude.{◌≡◌, ◌<◌, ℕ, length, map, replicate, slice_index_or, true, false, OnOk};
+ghost use Rattle.std.specs.List.{All, Contains};
 ghost use Rattle.std.specs.List.Sorted.{IsStrictlyIncreasing};
 ghost use Rattle.cycle_meaning.specs.Cycles.{resumes};
 ghost use Rattle.kernel_world.specs.Acting.{context_of, world_of};
@@ -18,7 +18,7 @@ use resumption::Waits;
 use resumption_calls::{calls_suffice, resume_called};
 use step_data::Refusal;
 
-/// Finds which processes resume, of those that were called.
+/// Finds which processes resume, of those that were called. No other is marked.
 pub fn look(
     world: &World,
     waits: &Waits,
@@ -35,6 +35,7 @@ pub fn look(
     requires calls { AreCalled (numbered (context_of world.now)) (world_of world.now) (callers_of (length kept.now) callers.now) (map asleep kept.now) called.now }
     requires room { resumed.old ≡ replicate (length kept.now) false }
     ensures found { answered result resumed.new ≡ resumes (numbered (context_of world.now)) (world_of world.now) 0 (context_of world.now).objects.processes (states_kept (context_of world.now).objects.processes kept.now) }
+    ensures marked { OnOk result ((k : ℕ) → slice_index_or resumed.new k false ≡ true → Contains called.now k) }
     ensures count { length resumed.new ≡ length resumed.old }
 {
     waiting_processes_sleep();

@@ -1,5 +1,5 @@
 -- The state between cycles that the parts of a kernel stand for.
-use Rattle.std.specs.Prelude.{◌≡◌, ◌<◌, ◌^◌, ℕ, false, List, length, replicate}
+use Rattle.std.specs.Prelude.{◌≡◌, ◌<◌, ◌^◌, false, List, length, replicate}
 use Rattle.flat_design.specs.declared.objects.Objects.{Objects}
 use Rattle.step_model.specs.System.{ProcessState, Digital}
 use Rattle.cycle_meaning.specs.Cycles.{digital_of, first_digital}

@@ -11,6 +11,7 @@ ghost use Rattle.kernel_state.specs.State.{IsBuilt};
 
 use agenda::Agenda;
 use flat_design::Flat;
+use held_value::Held;
 use kernel_world::World;
 use proc_exec::StatementRoom;
 use process_callers::Callers;
@@ -35,6 +36,21 @@ pub struct KernelParts<'a> {
     pub events: EventList,
 }
 
+/// What is kept of each process, and the waits of the design.
+#[derive(Drop)]
+struct Sleepers<'a> {
+    kept: Vec<KeptProcess>,
+    waits: Waits<'a>,
+}
+
+/// The timeouts, the lists of callers and the marks of the processes that resume.
+#[derive(Drop)]
+struct Calls {
+    timeouts: Agenda,
+    callers: Callers,
+    resumed: Vec<bool>,
+}
+
 /// A mark for each process, none of which is set.
 fn unmarked(alloc: Global, flat: &Flat) -> Result<Vec<bool>, AllocError>
     ensures { IfOk result (λ marks. marks.items ≡ replicate (length flat.now.processes) false) }
@@ -42,18 +58,15 @@ fn unmarked(alloc: Global, flat: &Flat) -> Result<Vec<bool>, AllocError>
     vec![in alloc; false; flat.processes().len()]
 }
 
-/// The processes of a design before their first run.
-fn not_begun(alloc: Global, flat: &Flat) -> Result<Vec<KeptProcess>, AllocError>
-    ensures { IfOk result (λ kept. AreUnstarted flat.now.processes kept.items) }
+/// The processes of a design before their first run, and its waits.
+fn sleepers_of(alloc: Global, flat: &Flat) -> Result<Sleepers<'_>, AllocError>
+    ensures kept { IfOk result (λ sleepers. AreUnstarted flat.now.processes sleepers.kept.items) }
+    ensures waits { IfOk result (λ sleepers. AreWaits flat.now.processes sleepers.waits) }
 {
-    unstarted(alloc, flat.processes())
-}
-
-/// The waits of a design.
-fn waits_of(alloc: Global, flat: &Flat) -> Result<Waits<'_>, AllocError>
-    ensures { IfOk result (λ waits. AreWaits flat.now.processes waits) }
-{
-    Waits::new(alloc, flat.processes())
+    let processes = flat.processes();
+    let waits = Waits::new(alloc, processes)?;
+    let kept = unstarted(alloc, processes)?;
+    Ok(Sleepers { kept, waits })
 }
 
 /// The timeouts of the processes, of which none has one.
@@ -64,26 +77,55 @@ fn no_timeouts(alloc: Global, flat: &Flat) -> Result<Agenda, AllocError>
     Agenda::new(alloc, flat.processes().len() as u32)
 }
 
+/// The lists of callers of a design.
+fn lists_of(alloc: Global, flat: &Flat) -> Result<Callers, AllocError>
+    requires { length flat.now.processes < 2 ^ 32 }
+    ensures { IfOk result (λ callers. AreCallers flat.now callers) }
+{
+    let callers = Callers::new(alloc, flat)?;
+    Ok(callers)
+}
+
+/// No timeouts and no marks, and the lists of callers of a design.
+fn calls_of(alloc: Global, flat: &Flat) -> Result<Calls, AllocError>
+    requires { length flat.now.processes < 2 ^ 32 }
+    ensures timeouts { IfOk result (λ calls. calls.timeouts ≡ replicate (length flat.now.processes) None) }
+    ensures callers { IfOk result (λ calls. AreCallers flat.now calls.callers) }
+    ensures resumed { IfOk result (λ calls. calls.resumed.items ≡ replicate (length flat.now.processes) false) }
+{
+    let resumed = unmarked(alloc, flat)?;
+    let timeouts = Held::new(no_timeouts(alloc, flat)?);
+    let callers = lists_of(alloc, flat)?;
+    Ok(Calls {
+        timeouts: timeouts.into_inner(),
+        callers,
+        resumed,
+    })
+}
+
 /// The parts of a kernel, with nothing called and no events.
 fn joined<'a>(
     alloc: Global,
     world: World<'a>,
-    kept: Vec<KeptProcess>,
-    waits: Waits<'a>,
-    timeouts: Agenda,
-    callers: Callers,
-    resumed: Vec<bool>,
+    sleepers: Sleepers<'a>,
+    calls: Calls,
 ) -> KernelParts<'a>
     requires few { length (context_of world).objects.processes < 2 ^ 32 }
-    requires waits { AreWaits (context_of world).objects.processes waits }
-    requires callers { AreCallers (context_of world).objects callers }
-    requires resumed { resumed.items ≡ replicate (length (context_of world).objects.processes) false }
+    requires waits { AreWaits (context_of world).objects.processes sleepers.waits }
+    requires callers { AreCallers (context_of world).objects calls.callers }
+    requires resumed { calls.resumed.items ≡ replicate (length (context_of world).objects.processes) false }
     ensures built { IsBuilt result }
     ensures events { result.events ≡ [] }
     ensures world { result.world ≡ world.entry }
-    ensures kept { result.kept ≡ kept }
-    ensures timeouts { result.timeouts ≡ timeouts }
+    ensures kept { result.kept ≡ sleepers.entry.kept }
+    ensures timeouts { result.timeouts ≡ calls.timeouts }
 {
+    let Sleepers { kept, waits } = sleepers;
+    let Calls {
+        timeouts,
+        callers,
+        resumed,
+    } = calls;
     KernelParts {
         world,
         kept,
@@ -97,15 +139,6 @@ fn joined<'a>(
     }
 }
 
-/// The lists of callers of a design.
-fn lists_of(alloc: Global, flat: &Flat) -> Result<Callers, AllocError>
-    requires { length flat.now.processes < 2 ^ 32 }
-    ensures { IfOk result (λ callers. AreCallers flat.now callers) }
-{
-    let callers = Callers::new(alloc, flat)?;
-    Ok(callers)
-}
-
 impl<'a> KernelParts<'a> {
     /// The parts for a design, before its start.
     pub fn new(alloc: Global, flat: &'a Flat) -> Result<KernelParts<'a>, AllocError>
@@ -117,12 +150,9 @@ impl<'a> KernelParts<'a> {
         ensures kept { IfOk result (λ k. AreUnstarted flat.now.processes k.kept.items) }
         ensures timeouts { IfOk result (λ k. k.timeouts ≡ replicate (length flat.now.processes) None) }
     {
+        let calls = Held::new(calls_of(alloc, flat)?);
+        let sleepers = Held::new(sleepers_of(alloc, flat)?);
         let world = first_world(alloc, flat)?;
-        let kept = not_begun(alloc, flat)?;
-        let waits = waits_of(alloc, flat)?;
-        let timeouts = no_timeouts(alloc, flat)?;
-        let callers = lists_of(alloc, flat)?;
-        let resumed = unmarked(alloc, flat)?;
-        Ok(joined(alloc, world, kept, waits, timeouts, callers, resumed))
+        Ok(joined(alloc, world, sleepers.into_inner(), calls.into_inner()))
     }
 }

@@ -3,5 +3,7 @@ pub mod Fronts
 pub mod Ran
 pub mod Worlds
 pub mod Nexts
+pub mod Called
+pub mod Passing
 pub mod Starts
 pub mod Sleeping

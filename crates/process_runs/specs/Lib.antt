@@ -1,3 +1,4 @@
+pub mod Called
 pub mod Kept
 pub mod Ran
 pub mod Sleeping

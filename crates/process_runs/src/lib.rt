@@ -8,6 +8,6 @@ mod sleep;
 mod started;
 
 pub use kept::KeptProcess;
-pub use resumed::run_processes;
+pub use resumed::run_called;
 pub use sleep::waiting_processes_sleep;
 pub use started::{start_processes, unstarted};

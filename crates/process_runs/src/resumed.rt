@@ -2,6 +2,7 @@
 ghost use Rattle.std.specs.Prelude.{◌≡◌, ◌<◌, ◌+◌, length, OnOk};
 ghost use Rattle.cycle_meaning.specs.Cycles.{run_all};
 ghost use Rattle.kernel_world.specs.Acting.{context_of, world_of};
+ghost use Rattle.process_runs.specs.Called.{MarksAreCalled};
 ghost use Rattle.process_runs.specs.Kept.{numbered, states_kept, CanRun};
 ghost use Rattle.process_runs.specs.Ran.{AllEnd, NextEnds, ran_from};
 
@@ -41,23 +42,26 @@ fn run_next(
     }
 }
 
-/// Runs the processes that resume in order, each up to its next wait (IEEE 1076, 14.7.5.3, and clauses 10 and 11). A refusal or
-/// want of memory ends the runs. Memory is taken only where a stack or a list is longer than any before.
-pub fn run_processes(
+/// Runs the processes that resume in order, each up to its next wait (IEEE 1076, 14.7.5.3, and clauses 10 and 11). Only those that
+/// are called are looked at: no other resumes. A refusal or want of memory ends the runs. Memory is taken only where a stack or a
+/// list is longer than any before.
+pub fn run_called(
     world: &mut World,
     processes: &[Process],
     kept: &mut [KeptProcess],
     resumed: &[bool],
+    called: &[u32],
     room: &mut StatementRoom,
 ) -> Result<(), ListFault>
     requires resumed { length resumed.now ≡ length processes.now }
+    requires called { MarksAreCalled (length processes.now) called.now resumed.now }
     requires can { CanRun (context_of world.old) (world_of world.old) processes.now kept.old }
     ensures ran { AllEnd (run_all (numbered (context_of world.old)) 0 processes.now (states_kept processes.now kept.old) resumed.now (world_of world.old)) (world_of world.new) (states_kept processes.now kept.new) result }
     ensures can { OnOk result (CanRun (context_of world.new) (world_of world.new) processes.now kept.new) }
     ensures context { numbered (context_of world.new) 0 ≡ numbered (context_of world.old) 0 }
 {
-    for number in 0..processes.len() {
-        match run_next(world, processes, kept, resumed, number, room) {
+    for number in called {
+        match run_next(world, processes, kept, resumed, *number as usize, room) {
             Ok(()) => {}
             Err(fault) => return Err(fault),
         }

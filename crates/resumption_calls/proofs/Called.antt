@@ -1,5 +1,6 @@
 -- Only those that are called are looked at.
 use Rattle.std.proofs.Common.{◌≡◌, ◌≢◌, inl, inr, refl, ap, sym, ◌∙◌, ℕ, zero, suc, ◌+◌, ◌<◌, Bool, true, false, List, [], length, map, take, replicate, Result, Ok, get_or, slice_set, get_or-set_other, get_or-set_same, arith}
+use Rattle.std.specs.List.{Contains}
 use Rattle.std.specs.List.Sorted.{IsStrictlyIncreasing}
 use Rattle.std.proofs.Math.Seq.{take-length}
 use Rattle.std.proofs.lemmas.Bool.{cases_eq}
@@ -11,7 +12,7 @@ use Rattle.resumption.specs.Sleeps.{Sleep, met}
 use Rattle.resumption.specs.Waits.{no_sleep}
 use Rattle.resumption.proofs.Looking.{AreAnswered}
 use Rattle.resumption_calls.specs.Calls.{is_called, OthersAreQuiet, QuietWaitsAreNotMet}
-use Rattle.resumption_calls.proofs.Members.{either, front_last, front_not, front_of_none, stands_before}
+use Rattle.resumption_calls.proofs.Members.{either, contains_called, front_last, front_not, front_of_none, stands_before}
 
 pub quiet_is_not_met : QuietWaitsAreNotMet
 quiet_is_not_met here w waits z quiet = rw (quiet.timeout, quiet.events) refl
@@ -73,3 +74,13 @@ pub all_called : {A : Type 0} (f : A → Sleep) (at : ℕ → Context) (w : Worl
 all_called f at w rows xs bs called i quiet whole done =
     let same : take i called ≡ called = ap (λ n. take n called) (sym whole) ∙ take-length called in
     λ j less. either_way f at w rows xs bs called (take i called) j quiet done (λ h. rw same h) (λ h. rw same h) less
+
+-- only those that are called are marked
+pub marked_called : {A : Type 0} (f : A → Sleep) (at : ℕ → Context) (w : World) (rows : List (List Waiting)) (xs : List A) (bs : List Bool) (called : List ℕ) (i : ℕ)
+    → length called ≡ i → IsAsked f at w rows xs bs (take i called) → (j : ℕ) → get_or bs j false ≡ true → Contains called j
+marked_called f at w rows xs bs called i whole done j set =
+    let same : take i called ≡ called = ap (λ n. take n called) (sym whole) ∙ take-length called in
+    elim (either (is_called called j)) [
+      | inl is ↦ contains_called j called is
+      | inr other ↦ let none : get_or bs j false ≡ false = done.others j (rw same other) in absurd (cc)
+    ]

@@ -1,9 +1,11 @@
 -- Members of rising lists of numbers.
 use Rattle.std.proofs.Common.{◌≡◌, ◌≢◌, ◌⊎◌, inl, inr, refl, ap, sym, ◌∙◌, ℕ, zero, suc, ◌+◌, ◌-◌, ◌<◌, ◌≤◌, Bool, true, false, ◌||◌, nat_eq, List, [], ◌∷◌, ◌++◌, length, take, get_or, add-one, arith}
+use Rattle.std.specs.List.{Contains}
 use Rattle.std.specs.List.Sorted.{IsStrictlyIncreasing}
 use Rattle.std.proofs.Math.Seq.{take-suc}
 use Rattle.std.proofs.lemmas.Bool.{cases_lt}
 use Rattle.std.proofs.lemmas.Bool.Decides.{nat_tests}
+use Rattle.std.proofs.lemmas.List.{get_or_default}
 use Rattle.resumption_calls.specs.Calls.{is_called}
 
 pub either : (b : Bool) → (b ≡ true) ⊎ (b ≡ false)
@@ -40,6 +42,9 @@ place_of j (x ∷ xs) h =
       | inl here ↦ (0, omega arith, sym (same_number j x here))
       | inr later ↦ let more = place_of j xs later in (suc more.0, omega (arith, more.1), more.2)
     ]
+
+pub contains_called : (j : ℕ) (xs : List ℕ) → is_called xs j ≡ true → Contains xs j
+contains_called j xs h = let there = place_of j xs h in (there.0, there.1, get_or_default xs there.0 j 0 there.1 ∙ there.2)
 
 pub member_at : (j : ℕ) (xs : List ℕ) (p : ℕ) → p < length xs → get_or xs p 0 ≡ j → is_called xs j ≡ true
 member_at j [] p h is = absurd (omega arith)

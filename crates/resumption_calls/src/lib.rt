@@ -1,7 +1,7 @@
 //! Which processes resume in a cycle, where only those are looked at whose timeout is due, or of whose signals one had an event.
 #![tactic(auto)]
 
-ghost use Rattle.std.specs.Prelude.{◌≡◌, ◌<◌, ℕ, false, length, map, replicate, List};
+ghost use Rattle.std.specs.Prelude.{◌≡◌, ◌<◌, ℕ, true, false, length, map, replicate, slice_index_or, List, OnOk};
 ghost use Rattle.std.specs.List.{All, Contains};
 ghost use Rattle.std.specs.List.Sorted.{IsStrictlyIncreasing};
 ghost use Rattle.step_model.specs.System.{ProcessState};
@@ -52,7 +52,8 @@ fn look<S: Asleep>(
     requires within { All (λ k. k < length sleepers.now) called.now }
     requires quiet { OthersAreQuiet (contexts_of world.now) (world_of world.now) (rows_of waits.now.rows.items) (map (λ s. S.asleep s) sleepers.now) called.now }
     requires room { resumed.old ≡ replicate (length sleepers.now) false }
-    ensures { answered result resumed.new ≡ all_met (contexts_of world.now) (world_of world.now) 0 (rows_of waits.now.rows.items) (map (λ s. S.asleep s) sleepers.now) }
+    ensures found { answered result resumed.new ≡ all_met (contexts_of world.now) (world_of world.now) 0 (rows_of waits.now.rows.items) (map (λ s. S.asleep s) sleepers.now) }
+    ensures marked { OnOk result ((k : ℕ) → slice_index_or resumed.new k false ≡ true → Contains called.now k) }
 {
     for k in called {
         match is_met(waits, world, *k, &sleepers[*k as usize]) {
@@ -63,8 +64,8 @@ fn look<S: Asleep>(
     Ok(())
 }
 
-/// Finds which processes resume in a cycle, where those that aren't called stay asleep anyhow. The first condition in process
-/// order that has a fault is refused.
+/// Finds which processes resume in a cycle, where those that aren't called stay asleep anyhow: none of them is marked. The first
+/// condition in process order that has a fault is refused.
 #[tactic(auto, using(resumption::proofs::Order::resumes_so))]
 pub fn resume_called<S: Asleep>(
     waits: &Waits,
@@ -80,7 +81,8 @@ pub fn resume_called<S: Asleep>(
     requires within { All (λ k. k < length sleepers.now) called.now }
     requires quiet { OthersAreQuiet (contexts_of world.now) (world_of world.now) (rows_of waits.now.rows.items) (map (λ s. S.asleep s) sleepers.now) called.now }
     requires room { resumed.old ≡ replicate (length sleepers.now) false }
-    ensures { (states : List ProcessState) → map (λ s. S.asleep s) sleepers.now ≡ sleeps_of (context_of world.now).objects.processes states → answered result resumed.new ≡ resumes (contexts_of world.now) (world_of world.now) 0 (context_of world.now).objects.processes states }
+    ensures found { (states : List ProcessState) → map (λ s. S.asleep s) sleepers.now ≡ sleeps_of (context_of world.now).objects.processes states → answered result resumed.new ≡ resumes (contexts_of world.now) (world_of world.now) 0 (context_of world.now).objects.processes states }
+    ensures marked { OnOk result ((k : ℕ) → slice_index_or resumed.new k false ≡ true → Contains called.now k) }
 {
     look(waits, world, sleepers, called, resumed)
 }

@@ -1,7 +1,9 @@
 -- One timeout more is entered.
-use Rattle.std.proofs.Common.{◌≡◌, refl, ap, sym, ◌∙◌, subst, ℕ, zero, suc, ◌+◌, Bool, true, false, List, [], ◌∷◌, ◌++◌, add-one, length, take, drop, set, get_or, arith, ◌<◌, Option, None}
+use Rattle.std.proofs.Common.{◌≡◌, refl, ap, sym, ◌∙◌, subst, ℕ, zero, suc, ◌+◌, Bool, true, false, List, [], ◌∷◌, ◌++◌, add-one, length, take, drop, set, get_or, arith, ◌-◌, ◌<◌, ◌≤◌, Option, None}
 use Rattle.std.specs.Prelude.{if◌then◌else◌}
 use Rattle.process_runs.specs.Kept.{Kept}
+use Rattle.process_runs.specs.Called.{MarksAreCalled}
+use Rattle.process_runs.proofs.Called.{next_called, within_count, AreUnmarked, none_first, none_between, next_behind}
 use Rattle.cycle_timeouts.specs.Entered.{entered}
 use Rattle.timeout_entry.specs.Kept.{timeouts_kept}
 
@@ -51,6 +53,31 @@ entered_next first now after ks bs k u b h lk lb eu eb was got =
     rw (add-one k)
     (got ∙ ap (λ (l : List (Option ℕ)). if b then set l k u else l) was
     ∙ sym (entered_more first (timeouts_kept ks) bs k u b (subst (λ (n : ℕ). k < n) lk h) (how_many ks ∙ lk) lb eu eb))
+
+-- those that aren't marked are passed over
+entered_past : (first new : List (Option ℕ)) (bs : List Bool) (d n m : ℕ) → n + d ≡ m → m ≤ length first → length new ≡ length first → length bs ≡ length first → AreUnmarked bs n m
+    → entered first (take n new) (take n bs) ≡ entered first (take m new) (take m bs)
+entered_past first new bs zero n m e within ln lb unmarked = let same : n ≡ m = omega (arith, e) in ap (λ (i : ℕ). entered first (take i new) (take i bs)) same
+entered_past first new bs (suc d) n m e within ln lb unmarked =
+    sym (entered_more first new bs n (get_or new n None) false (omega (arith, e, within)) ln lb refl (sym (unmarked n (omega arith) (omega (arith, e)))))
+    ∙ entered_past first new bs d (suc n) m (omega (arith, e)) within ln lb (λ k from to. unmarked k (omega (arith, from)) to)
+
+pub entered_first : (first now : List (Option ℕ)) (ks : List Kept) (bs : List Bool) (called : List ℕ) → length ks ≡ length first → length bs ≡ length first → MarksAreCalled (length first) called bs → now ≡ first
+    → now ≡ entered first (take (next_called called (length first) 0) (timeouts_kept ks)) (take (next_called called (length first) 0) bs)
+entered_first first now ks bs called lk lb are was =
+    was ∙ sym (entered_none first)
+    ∙ entered_past first (timeouts_kept ks) bs (next_called called (length first) 0) 0 (next_called called (length first) 0) (omega arith) (within_count (length first) called bs 0 are) (how_many ks ∙ lk) lb
+    (none_first (length first) called bs are)
+
+pub entered_called : (first now after : List (Option ℕ)) (ks : List Kept) (bs : List Bool) (called : List ℕ) (i k : ℕ) (u : Option ℕ) (b : Bool) → length ks ≡ length first → length bs ≡ length first → MarksAreCalled (length first) called bs
+    → i < length called → next_called called (length first) i ≡ k → k < length ks → u ≡ get_or (timeouts_kept ks) k None → b ≡ get_or bs k false
+    → now ≡ entered first (take (next_called called (length first) i) (timeouts_kept ks)) (take (next_called called (length first) i) bs) → after ≡ (if b then set now k u else now)
+    → after ≡ entered first (take (next_called called (length first) (i + 1)) (timeouts_kept ks)) (take (next_called called (length first) (i + 1)) bs)
+entered_called first now after ks bs called i k u b lk lb are h number within eu eb was got =
+    let next : ℕ = next_called called (length first) (i + 1) in
+    entered_next first now after ks bs k u b within lk lb eu eb (was ∙ ap (λ (n : ℕ). entered first (take n (timeouts_kept ks)) (take n bs)) number) got
+    ∙ entered_past first (timeouts_kept ks) bs (next - (k + 1)) (k + 1) next (omega (arith, next_behind (length first) called bs i k are h number)) (within_count (length first) called bs (i + 1) are) (how_many ks ∙ lk) lb
+    (none_between (length first) called bs i k are h number)
 
 take_whole : {A : Type 0} (xs : List A) (n : ℕ) → n ≡ length xs → take n xs ≡ xs
 take_whole [] zero e = refl

@@ -1,6 +1,7 @@
 //! Timeouts are entered.
 ghost use Rattle.std.specs.Prelude.{◌≡◌, ◌<◌, ◌^◌, false, length, if◌then◌else◌, slice_index_or, slice_set, None, OnOk};
 ghost use Rattle.cycle_timeouts.specs.Entered.{entered};
+ghost use Rattle.process_runs.specs.Called.{MarksAreCalled};
 ghost use Rattle.timeout_entry.specs.Kept.{timeouts_kept};
 
 use agenda::Agenda;
@@ -43,22 +44,23 @@ fn enter(
 }
 
 /// Enters the timeouts of the processes that ran (IEEE 1076, 10.2): the time of a process that waits without one is taken out. The times of
-/// the others stay. Memory is taken where a time is entered.
-pub fn enter_timeouts(
+/// the others stay. Only those that were called are looked at: no other ran. Memory is taken where a time is entered.
+pub fn enter_called(
     timeouts: &mut Agenda,
     kept: &[KeptProcess],
     ran: &[bool],
+    called: &[u32],
 ) -> Result<(), AllocError>
     requires kept { length kept.now ≡ length timeouts.old }
     requires ran { length ran.now ≡ length timeouts.old }
-    requires few { length timeouts.old < 2 ^ 32 }
+    requires called { MarksAreCalled (length timeouts.old) called.now ran.now }
     ensures entered { OnOk result (timeouts.new ≡ entered timeouts.old (timeouts_kept kept.now) ran.now) }
     ensures count { length timeouts.new ≡ length timeouts.old }
 {
-    for number in 0..kept.len() {
-        let at = timeout_at(kept, number);
-        let entering = flag_at(ran, number);
-        enter(timeouts, number as u32, at, entering)?;
+    for number in called {
+        let at = timeout_at(kept, *number as usize);
+        let entering = flag_at(ran, *number as usize);
+        enter(timeouts, *number, at, entering)?;
     }
     Ok(())
 }

@@ -4,5 +4,5 @@
 mod entry;
 mod law;
 
-pub use entry::{enter_all, enter_timeouts};
+pub use entry::{enter_all, enter_called};
 pub use law::entered_timeouts_are_of_states;

@@ -1,4 +1,4 @@
-use Rattle.std.proofs.Common.{ℕ, ap, sym, ◌∙◌, subst}
+use Rattle.std.proofs.Common.{ℕ, refl, ap, sym, ◌∙◌, subst}
 use Rattle.std.specs.Prelude.{replicate, false, Ok}
 use Rattle.std.proofs.lemmas.List.{with_items_is}
 use Rattle.cycle_meaning.specs.World.{Local}
@@ -6,7 +6,7 @@ use Rattle.kernel_world.specs.Acting.{context_of, world_of}
 use Rattle.resumption.specs.Waits.{answered}
 use Rattle.process_callers.specs.Callers.{AreWithin}
 use Rattle.kernel_state.specs.State.{objects_of}
-use Rattle.kernel_cycle.proofs.Found.{times_count, can_here, have_here, waits_here, within_here, called_here, found_here}
+use Rattle.kernel_cycle.proofs.Found.{times_count, can_here, have_here, waits_here, within_here, called_here, found_here, marks_here}
 use Rattle.kernel_cycle.proofs.finding.find_resumed.Goals as goal
 
 pub call_processes-requires-clause-within : goal.call_processes-requires-clause-within
@@ -70,3 +70,10 @@ returns-in-Err-clause-found c =
     found_here (context_of k.world) (context_of c.call_processes.new.world) (world_of k.world) (world_of c.call_processes.new.world) k.kept.items c.look-looked.result c.look-looked.new.resumed
     c.call_processes.ensures.context (ap (λ (l : Local). l.world) c.call_processes.ensures.local) (rw c.as_slice-kept.ensures.value at c.look-looked.ensures.found)
     ∙ ap (λ r. answered r c.look-looked.new.resumed) c.in-Err.is
+
+pub returns-in-Ok-looked-clause-called : goal.returns-in-Ok-looked-clause-called
+returns-in-Ok-looked-clause-called c =
+    let k = c.args.parts.now in
+    marks_here (context_of k.world) (context_of c.call_processes.new.world) (objects_of k).processes k.kept.items k.timeouts c.call_processes.new.called.items c.as_slice-called.result.now c.look-looked.new.resumed _
+    c.call_processes.ensures.context refl c.as_slice-called.ensures.value (with_items_is k.resumed c.look-looked.new.resumed (c.look-looked.ensures.count ∙ c.as_mut_slice-resumed.ensures.len))
+    c.requires.can.count c.requires.timeouts c.in-Ok.ensures.rises c.in-Ok.ensures.within c.in-Ok-looked.ensures.marked

@@ -21,6 +21,9 @@ run_resumed-requires-clause-marks c =
     marks_count c.find_resumed.new.parts.resumed.items c.args.parts.now.resumed.items (objects_of c.args.parts.now) (objects_of c.find_resumed.new.parts) c.find_resumed.ensures.count c.requires.built.resumed
     (ap (λ (h : Context). h.objects) c.find_resumed.ensures.context)
 
+pub run_resumed-requires-clause-called : goal.run_resumed-requires-clause-called
+run_resumed-requires-clause-called c = c.in-Ok.ensures.called
+
 pub run_resumed-requires-clause-can : goal.run_resumed-requires-clause-can
 run_resumed-requires-clause-can c =
     let k = c.args.parts.now in

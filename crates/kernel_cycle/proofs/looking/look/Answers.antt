@@ -18,4 +18,4 @@ resume_called-requires-clause-quiet c =
 
 pub returns-clause-found : goal.returns-clause-found
 returns-clause-found c =
-    c.resume_called.ensures (states_kept (context_of c.args.world.now).objects.processes c.args.kept.now) (c.waiting_processes_sleep.ensures.states c.args.world.now (context_of c.args.world.now).objects.processes c.args.kept.now c.requires.can)
+    c.resume_called.ensures.found (states_kept (context_of c.args.world.now).objects.processes c.args.kept.now) (c.waiting_processes_sleep.ensures.states c.args.world.now (context_of c.args.world.now).objects.processes c.args.kept.now c.requires.can)
