@@ -1,9 +1,9 @@
 -- One event of a list more.
-use Rattle.std.proofs.Common.{◌≡◌, ℕ, ◌+◌, ◌<◌, List, [], ◌∷◌, ◌++◌, length, take, get_or, refl, sym, ap, ◌∙◌, arith}
+use Rattle.std.proofs.Common.{◌≡◌, ℕ, ◌+◌, ◌<◌, List, [], ◌∷◌, ◌++◌, length, take, get_or, sym, ap, ◌∙◌, arith}
 use Rattle.std.proofs.lemmas.List.{take_more, length-take-le}
 use Rattle.step_data.specs.declared.event.Event.{Event}
 use Rattle.run_counts.specs.declared.counts.EventCounts.{EventCounts}
-use Rattle.run_counts.specs.Counts.{gained, gained_one, total, points_at, signals_at, crossings_at}
+use Rattle.run_counts.specs.Counts.{gained, gained_one, total}
 use Rattle.run_counts.specs.CountLaws.{counts_join, counts_are, total_few}
 
 one_gained : (c : EventCounts) (e : Event) → gained_one c e ≡ gained c (e ∷ [])

@@ -1,9 +1,9 @@
 -- Counting events in parts.
-use Rattle.std.proofs.Common.{◌≡◌, ℕ, ◌+◌, ◌≤◌, List, [], ◌∷◌, ◌++◌, length, refl, sym, ap, ◌∙◌, arith}
+use Rattle.std.proofs.Common.{◌≡◌, ℕ, ◌+◌, ◌≤◌, List, [], ◌∷◌, ◌++◌, length, ap, ◌∙◌, arith}
 use Rattle.step_data.specs.declared.event.Event.{Event}
 use Rattle.step_data.specs.declared.event.Event.TheVariants as event
 use Rattle.run_counts.specs.declared.counts.EventCounts.{EventCounts}
-use Rattle.run_counts.specs.Counts.{points_at, signals_at, crossings_at, among, gained, gained_one, total, CountsJoin}
+use Rattle.run_counts.specs.Counts.{points_at, signals_at, crossings_at, among, gained, total, CountsJoin}
 
 pub among_append : (counts : Event → ℕ) (a b : List Event) → among counts (a ++ b) ≡ among counts a + among counts b
 among_append counts [] b = omega arith

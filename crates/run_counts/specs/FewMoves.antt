@@ -6,7 +6,7 @@ use Rattle.step_data.specs.declared.event.Event.{Event}
 use Rattle.step_data.specs.declared.outcome.Cause.{Cause}
 use Rattle.step_data.specs.declared.outcome.Ran.{Ran}
 use Rattle.step_data.specs.declared.outcome.Ran.TheVariants as rans
-use Rattle.step_data.specs.declared.outcome.End.TheVariants.{Reached, Refused}
+use Rattle.step_data.specs.declared.outcome.End.TheVariants.{Reached}
 use Rattle.step_data.specs.Steps.{is_failed}
 use Rattle.step_model.specs.System.{System, Landing}
 use Rattle.lockstep_model.specs.Works.{Work, WorkKind, Worked, Tried, Run, Standing, before, over, cycles_in, solutions_in, side_steps_in, probes_in, tries_in, attempts_in, cycles_at, solutions_at, side_steps_at, probes_at, steps_at}

@@ -1,7 +1,7 @@
-use Rattle.std.proofs.Common.{◌≡◌, ap, sym, subst, ◌∙◌}
+use Rattle.std.proofs.Common.{ap, sym, subst, ◌∙◌}
 use Rattle.step_model.specs.System.{attempt as attempt_of}
 use Rattle.lockstep_model.specs.declared.moves.Moved.{Moved}
-use Rattle.lockstep_model.specs.Walk.{Walk, Reply, Fits, Awaits, Falls, here, moves_left, moved, reply_of}
+use Rattle.lockstep_model.specs.Walk.{Walk, Reply, Fits, Awaits, Falls, here, moves_left, reply_of}
 use Rattle.lockstep_model.specs.Works.{events_of, attempts_in}
 use Rattle.mixed_cycle.specs.Moving.{FitsIn}
 use Rattle.run_counts.specs.Counts.{gained, total}
