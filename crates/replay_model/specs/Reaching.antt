@@ -1,12 +1,13 @@
 -- The engine's steps to the end are those of the definition.
-use Rattle.std.proofs.Common.{◌≡◌, ℕ, zero, suc, ◌+◌, ◌<◌, ◌≤◌, List, [], ◌∷◌, ◌++◌, replicate, Option, Some, None, refl, sym, ap, subst, ◌∙◌, arith}
+use Rattle.std.proofs.Common.{◌≡◌, ℕ, zero, suc, ◌<◌, List, [], ◌∷◌, ◌++◌, replicate, Option, Some, None, refl, sym, ap, subst, ◌∙◌, arith}
 use Rattle.step_data.specs.declared.outcome.End.{End}
 use Rattle.step_model.specs.System.{System}
-use Rattle.lockstep_model.specs.declared.moves.Moved.{Moved}
 use Rattle.lockstep_model.specs.declared.moves.Moved.TheVariants as says
+use Rattle.lockstep_model.specs.Lockstep.{lockstep}
+use Rattle.lockstep_model.specs.LookLaws.{most_moves, moves_of_run}
 use Rattle.lockstep_model.specs.Walk.{moved, moves_left, first_walk}
 use Rattle.step_schedule.specs.declared.Step.{Step}
-use Rattle.step_schedule.specs.declared.Step.TheVariants.{D, W}
+use Rattle.step_schedule.specs.declared.Step.TheVariants.{D}
 use Rattle.core_steps.specs.States.{State, first_state, stepped, stepped_by, stepped_all, said, said_by, end_said}
 use Rattle.core_steps.specs.Ending.{Nears}
 use Rattle.replay_model.specs.Replays.{IsEnough, steps_to_end, replayed}
@@ -48,7 +49,7 @@ pub leads_start : (sys : System) (n : ℕ) (s : State) → IsEnough n s → Lead
 leads_start sys n s h = record { same = refl; enough = h }
 
 -- one step less, unless none is left
-abbrev less : ℕ → ℕ
+abbrev pub less : ℕ → ℕ
 less zero = zero
 less (suc n) = n
 
@@ -91,6 +92,7 @@ pub enough_first : (sys : System) (s t : State) → s ≡ first_state sys → Ne
 enough_first sys s t fresh near none =
     let left : moves_left s.led.walk ≡ moves_left (first_walk sys) = ap (λ (x : State). moves_left x.led.walk) fresh in
     let some : 0 < moves_left (first_walk sys) = omega arith in
+    let most : moves_left (first_walk sys) ≡ most_moves (lockstep sys).works = moves_of_run sys in
     let nearer = near.nearer none in
     let goes = near.goes none (omega arith) in
     (goes, omega arith)

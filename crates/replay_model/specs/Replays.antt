@@ -1,16 +1,18 @@
 -- A replay: the steps of a schedule, and then those of the engine to the end (own).
 use Rattle.std.specs.Prelude.{◌≡◌, ℕ, ◌<◌, ◌≤◌, List, ◌++◌, replicate, None}
 use Rattle.step_model.specs.System.{System}
-use Rattle.lockstep_model.specs.Walk.{first_walk, moves_left}
+use Rattle.lockstep_model.specs.Lockstep.{lockstep}
+use Rattle.lockstep_model.specs.LookLaws.{most_moves}
+use Rattle.lockstep_model.specs.Walk.{moves_left}
 use Rattle.step_schedule.specs.declared.Step.{Step}
 use Rattle.step_schedule.specs.declared.Step.TheVariants.{D}
 use Rattle.core_steps.specs.States.{State, first_state, stepped_all}
 use Rattle.ahead_report.specs.declared.Report.{Report}
 
--- so many steps of the engine come to the end of a run, whatever the worker does between them; where the end was told, further
--- ones change nothing
+-- So many steps of the engine come to the end of a run, whatever the worker does between them: 2, one for each cycle, solution, side
+-- step and probe, and 3 for each attempt. Where the end was told, further ones change nothing.
 abbrev pub steps_to_end : System → ℕ
-steps_to_end sys = moves_left (first_walk sys)
+steps_to_end sys = most_moves (lockstep sys).works
 
 -- the core behind them
 unfoldable pub replayed : System → List Step → State
