@@ -1,0 +1,17 @@
+use Rattle.std.proofs.Common.{ap}
+use Rattle.lockstep_model.specs.Works.{events_of}
+use Rattle.trace_sink.specs.PutsLaws.{puts_of, puts_then, puts_stops}
+use Rattle.trace_lines.specs.Lines.{header_lines, work_lines}
+use Rattle.replay_run.proofs.whole.write_replay.Goals as goal
+
+pub returns-in-Ok-clause-puts : goal.returns-in-Ok-clause-puts
+returns-in-Ok-clause-puts g c =
+    let walk = c.args.core.now.led.walk in
+    let head = header_lines c.args.flat.now c.args.top.now c.args.options.now in
+    puts_then c.in-Ok.field-0 c.write_works.result head (work_lines c.args.flat.now.enumerations (events_of walk.works) walk.end) _ _ _ _ _ _ c.in-Ok.ensures
+    (puts_of _ _ _ _ _ _ _ c.write_works.ensures.puts (ap (λ enums. work_lines enums (events_of walk.works) walk.end) c.enumerations.ensures))
+
+pub returns-clause-puts : goal.returns-clause-puts
+returns-clause-puts g c =
+    let walk = c.args.core.now.led.walk in
+    puts_stops c.put_header.result c.in-Err.fault (header_lines c.args.flat.now c.args.top.now c.args.options.now) (work_lines c.args.flat.now.enumerations (events_of walk.works) walk.end) _ _ _ _ c.put_header.ensures c.in-Err.is
