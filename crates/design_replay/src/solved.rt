@@ -58,7 +58,9 @@ pub fn replay_solved<D: Design, K: Kernel<D> + Drop, W: Sink>(
 {
     match two_solvers::<D>(alloc, flat, options) {
         Ok((engine, worker)) => {
-            run_replay(alloc, flat, top, options, schedule, engine, worker, kernel, trace)
+            run_replay(
+                alloc, flat, top, options, schedule, engine, worker, kernel, trace,
+            )
         }
         Err(_) => Err(TraceFault::Memory),
     }

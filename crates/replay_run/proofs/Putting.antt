@@ -1,12 +1,12 @@
 -- Calls that write lines one behind the other.
-use Rattle.std.proofs.Common.{◌≡◌, ℕ, ◌≤◌, List, [], ◌++◌, Option, Result, Ok, Err, OnOk, sym, ap, ◌∙◌, arith, append_assoc}
+use Rattle.std.proofs.Common.{◌≡◌, ℕ, ◌≤◌, List, [], ◌++◌, Option, Result, Ok, Err, sym, ap, ◌∙◌, arith}
 use Rattle.std.proofs.lemmas.List.{map-append}
 use Rattle.flat_design.specs.declared.objects.Enumeration.{Enumeration}
 use Rattle.step_data.specs.declared.event.Event.{Event}
 use Rattle.run_place.specs.Giving.{Gave}
 use Rattle.trace_text.specs.Trace.{event_line}
 use Rattle.trace_sink.specs.Puts.{Puts, Written}
-use Rattle.trace_sink.specs.PutsLaws.{written_start, written_rest, written_all, puts_of, puts_then, puts_nothing}
+use Rattle.trace_sink.specs.PutsLaws.{written_start, written_rest, puts_of, puts_then, puts_nothing}
 use Rattle.trace_sink.specs.declared.TraceFault.{TraceFault}
 use Rattle.trace_sink.specs.declared.TraceFault.TheVariants.{Memory}
 use Rattle.trace_lines.specs.Lines.{event_lines}

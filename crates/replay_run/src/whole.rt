@@ -93,14 +93,7 @@ fn write_replay<D: Design, S: Stepper<D>, K: Kernel<D>, W: Sink>(
 {
     let mut room = Vec::new(alloc);
     match put_header(flat, top, options, &mut room, trace) {
-        Ok(()) => write_works(
-            alloc,
-            core,
-            schedule,
-            flat.enumerations(),
-            &mut room,
-            trace,
-        ),
+        Ok(()) => write_works(alloc, core, schedule, flat.enumerations(), &mut room, trace),
         Err(fault) => Err(fault),
     }
 }
