@@ -8,7 +8,7 @@ use sim_top::{Status, simulate_plain};
 use std::io::{self, BufWriter};
 use std::process::ExitCode;
 
-// Runs the program on the standard streams. A trace that can't be handed on at its end is a write fault.
+/// Runs the program on the standard streams. A trace that can't be handed on at its end is a write fault.
 fn simulate(rt: &HostRuntime) -> io::Result<Status> {
     let words = arguments::words(rt, rt.alloc())?;
     let mut source = StdSource::new(rt.stdin());
@@ -17,11 +17,11 @@ fn simulate(rt: &HostRuntime) -> io::Result<Status> {
     let status = simulate_plain(rt.alloc(), &words, &mut source, &mut trace, &mut notes);
     Ok(match trace.flush() {
         Ok(()) => status,
-        Err(_) => Status::WRITE_FAULT,
+        Err(_) => Status::WriteFault,
     })
 }
 
 fn main(rt: HostRuntime) -> ExitCode {
-    let status = simulate(&rt).unwrap_or(Status::MEMORY);
-    ExitCode::from(status.code)
+    let status = simulate(&rt).unwrap_or(Status::Memory);
+    ExitCode::from(status.code())
 }

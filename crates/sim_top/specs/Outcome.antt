@@ -1,82 +1,84 @@
--- What a call of the program does, status by status.
-use Rattle.std.specs.Prelude.{ℕ, ◌≡◌, ◌≢◌, ◌<◌, ◌≤◌, Bool, true, false, ◌⊎◌, List, [], ◌∷◌, Option, Some, None, IfSome, length, codes, decimal}
-use Rattle.port_base.specs.Told.{with_front, with_more}
-use Rattle.first_form.specs.Form.{Named, IsForm, joined}
-use Rattle.run_words.specs.Words.{Request, refusal}
-use Rattle.plain_trace.specs.Steps.{is_reached}
-use Rattle.plain_trace.specs.Trace.{trace_lines, trace_text}
-use Rattle.port_base.specs.Lines.{GainsLines, GainsFront}
+-- The output of the program, and how a call of it ends.
+use Rattle.std.specs.Prelude.{◌≡◌, ℕ, ◌<◌, ◌≤◌, List, ◌++◌, length, codes, decimal, Option, Some, None, IfSome, ◌⊎◌}
+use Rattle.step_data.specs.declared.outcome.Options.{Options}
+use Rattle.word_rules.specs.declared.mode.Mode.{Mode}
+use Rattle.word_rules.specs.declared.mode.Mode.TheVariants as mode
+use Rattle.word_rules.specs.Words.{Text, Request, refusal, request_of}
+use Rattle.program_output.specs.Port.{Port, Stays, Fails, ReadsAll}
+use Rattle.program_output.specs.Output.{Output, HandsOn, HandsOnNothing, Tells, noted}
+use Rattle.program_output.specs.declared.status.Status.{Status}
+use Rattle.program_output.specs.declared.status.Status.TheVariants as status
+use Rattle.text_start.specs.Start.{most_bytes}
+use Rattle.text_run.specs.TextRun.{RunsText}
+use Rattle.ladder.specs.Ladder.{ladder_text}
+use Rattle.make_run.specs.Making.{MakesText}
 
--- the words are accepted
-abbrev pub Accepts : List (List ℕ) → Type 0
-Accepts words = refusal words ≡ None
+-- the options of a run, of what is asked for
+abbrev pub options_of : Request → Options
+options_of request = record {
+  stop = request.stop;
+  ahead = request.ahead;
+  h0 = request.h0;
+  hmin = request.hmin;
+  hmax = request.hmax;
+  tol = request.tol;
+  ltol = request.ltol;
+  xres = request.xres;
+}
+
+-- ---- refusals before a design
 
 -- `usage N`
-abbrev pub usage_note : ℕ → List ℕ
-usage_note number = joined (codes "usage " ∷ decimal number ∷ codes "\n" ∷ [])
+abbrev pub usage_note : ℕ → Text
+usage_note number = codes "usage " ++ decimal number ++ codes "\n"
 
--- the words are refused, and the note names the first refused one
-abbrev pub RefusesWords : List (List ℕ) → Option (List ℕ) → Option (List ℕ) → Type 0
-RefusesWords words notes notes_now = (n : ℕ) × (refusal words ≡ Some n) × (notes_now ≡ with_more notes (usage_note n))
+abbrev pub usage : ℕ → Output
+usage number = noted status.WordsRefused (usage_note number)
 
--- a text has at most so many bytes
-abbrev pub most_bytes : ℕ
-most_bytes = 1048576
+abbrev pub too_long_note : Text
+too_long_note = codes "error 7\n"
 
--- the source gave more bytes than a text has
-abbrev pub IsTooLong : Option (List ℕ) → Type 0
-IsTooLong left = IfSome left (λ bytes. most_bytes < length bytes)
+abbrev pub too_long : Output
+too_long = noted status.TooLong too_long_note
 
--- the text is of the form for the top and says one thing, and the trace gained is the one of its quantities, which
--- ends so
-abbrev pub RunsTo : Bool → Request → List ℕ → Option (List ℕ) → Option (List ℕ) → Type 0
-RunsTo end request text trace trace_now =
-    (quantities : List Named) × IsForm request.top text quantities × ((others : List Named) → IsForm request.top text others → others ≡ quantities)
-    × (is_reached request ≡ end) × (trace_now ≡ with_more trace (trace_text request quantities))
+-- more bytes are left in the source than a text may have, where it tells them
+abbrev pub HasTooMany : Port → Type 0
+HasTooMany source = IfSome source.before (λ bytes. most_bytes < length bytes)
 
--- the text isn't of the form
-abbrev pub IsOther : List ℕ → List ℕ → Type 0
-IsOther top text = (quantities : List Named) → IsForm top text quantities → ⊥
+-- a note is told, unless memory runs out before
+abbrev pub TellsOrLacks : List ℕ → Status → Status → Port → Type 0
+TellsOrLacks note own s notes = Tells note own s notes ⊎ (s ≡ status.Memory) × Stays notes
 
--- where the text is of the form, the trace gained is a front of the one of its quantities
-abbrev pub GainsFrontOfTrace : Request → List ℕ → Option (List ℕ) → Option (List ℕ) → Type 0
-GainsFrontOfTrace request text trace trace_now =
-    (quantities : List Named) → IsForm request.top text quantities → GainsFront trace trace_now (trace_text request quantities)
+-- ---- the modes
 
--- the same in whole lines
-abbrev pub GainsLinesOfTrace : Request → List ℕ → Option (List ℕ) → Option (List ℕ) → Type 0
-GainsLinesOfTrace request text trace trace_now =
-    (quantities : List Named) → IsForm request.top text quantities → GainsLines trace trace_now (trace_lines request quantities)
+-- In mode lockstep a call that ends with this status
+abbrev pub Simulates : Status → Request → Port → Port → Port → Type 0
+Simulates s request source trace notes =
+    -- couldn't read the source,
+    (s ≡ status.ReadFault) × Fails source × Stays trace × Stays notes
+    -- or refused it for its length,
+    ⊎ HasTooMany source × HandsOn too_long s trace notes
+    -- or read all of it and handed on what this text gives,
+    ⊎ ((text : Text) × ReadsAll source text × (length text ≤ most_bytes) × RunsText s text request.top (options_of request) trace notes)
+    -- or had no memory for it
+    ⊎ HandsOnNothing s trace notes
 
--- a status that a run on a text has
-abbrev pub IsRunStatus : ℕ → Type 0
-IsRunStatus code = (code ≤ 6) × (code ≢ 2) × (code ≢ 4)
+-- In mode make it has handed on what the text of the generated ladder gives, and has read nothing.
+abbrev pub Makes : Status → Request → Port → Port → Port → Type 0
+Makes s request source trace notes = Stays source × MakesText s (ladder_text request.size) request.size (options_of request) trace notes
 
--- all that the source had left is read, a text of so few bytes of which this holds
-abbrev pub ReadsAll : Option (List ℕ) → Option (List ℕ) → (List ℕ → Type 0) → Type 0
-ReadsAll left left_now P =
-    (text : List ℕ) × (left ≡ with_front text left_now) × IfSome left_now (λ rest. rest ≡ []) × (length text ≤ most_bytes) × P text
+abbrev pub Performs : Mode → Status → Request → Port → Port → Port → Type 0
+Performs mode.Lockstep s request source trace notes = Simulates s request source trace notes
+Performs mode.Make s request source trace notes = Makes s request source trace notes
 
--- Of a design in the form: the whole trace with the status of its end, or a fault of the source, of the sinks or of
--- memory, after a front of the trace.
-abbrev pub EndsRight : ℕ → Request → List Named → Option (List ℕ) → Option (List ℕ) → Type 0 → Type 0 → Type 0
-EndsRight code request quantities trace trace_now read_fault write_fault =
-    (code ≡ 0) × (is_reached request ≡ true) × (trace_now ≡ with_more trace (trace_text request quantities))
-    ⊎ (code ≡ 3) × (is_reached request ≡ false) × (trace_now ≡ with_more trace (trace_text request quantities))
-    ⊎ (code ≡ 4) × read_fault × (trace_now ≡ trace)
-    ⊎ (code ≡ 5) × write_fault × GainsFront trace trace_now (trace_text request quantities)
-    ⊎ (code ≡ 6) × GainsLines trace trace_now (trace_lines request quantities)
+-- ---- the whole
 
--- A refusal before the run: its own status with the note, or a front of the note where the notes failed, or no note
--- for want of memory.
-abbrev pub Refuses : ℕ → ℕ → List ℕ → Option (List ℕ) → Option (List ℕ) → Type 0 → Type 0
-Refuses code own note notes notes_now write_fault =
-    (code ≡ own) × (notes_now ≡ with_more notes note)
-    ⊎ (code ≡ 5) × write_fault × GainsFront notes notes_now note
-    ⊎ (code ≡ 6) × (notes_now ≡ notes)
+-- With words whose first refused one is this: they are told before anything is read. With accepted words their mode is performed, where
+-- there is memory to read them.
+abbrev pub EndsBy : Option ℕ → Status → Request → Port → Port → Port → Type 0
+EndsBy (Some number) s request source trace notes = Stays source × HandsOn (usage number) s trace notes
+EndsBy None s request source trace notes = Performs request.mode s request source trace notes ⊎ Stays source × HandsOnNothing s trace notes
 
--- The same behind reading, where the source may have failed.
-abbrev pub ReadsAndRefuses : ℕ → ℕ → List ℕ → Option (List ℕ) → Option (List ℕ) → Type 0 → Type 0 → Type 0
-ReadsAndRefuses code own note notes notes_now read_fault write_fault =
-    (code ≡ 4) × read_fault × (notes_now ≡ notes)
-    ⊎ Refuses code own note notes notes_now write_fault
+-- a call with these words that ends with this status
+abbrev pub Ends : Status → List Text → Port → Port → Port → Type 0
+Ends s words source trace notes = EndsBy (refusal words) s (request_of words) source trace notes

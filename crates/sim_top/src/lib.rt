@@ -1,9 +1,8 @@
 //! The top call: from the words of the command line and the bytes of a design to the trace.
 #![tactic(auto)]
 
-mod note;
-mod status;
+mod refusals;
 mod top;
 
-pub use status::Status;
+pub use program_output::Status;
 pub use top::simulate_plain;

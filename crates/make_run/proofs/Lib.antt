@@ -1,0 +1,2 @@
+pub mod LadderLength
+pub mod Outputs
