@@ -24,9 +24,9 @@ pub runs_design : (s : Status) (text name top : List ℕ) (options : Options) (o
 runs_design s text name top options objects r trace notes law e f starts puts ends =
     subst (λ (x : Status). RunsText x text top options trace notes) (sym f)
     (inl (
-        Ok objects,
-        subst (λ (t : List ℕ). Gives text t (Ok objects)) e starts.0,
-        law r (run_of objects options).end (run_lines objects top options) trace notes puts ends starts.2,
+      Ok objects,
+      subst (λ (t : List ℕ). Gives text t (Ok objects)) e starts.0,
+      law r (run_of objects options).end (run_lines objects top options) trace notes puts ends starts.2,
     ))
 
 -- a text that is refused, or no memory

@@ -190,12 +190,14 @@ fn prepared_of<D: Design, S: Stepper<D> + Drop, K: Kernel<D> + Drop>(
     ensures empty { IfSome result (λ made. made.scratch.events ≡ []) }
 {
     match prepare(alloc, options, stepper, worker, kernel) {
-        Ok(Prepared {
-            timeline,
-            runner,
-            engine,
-            scratch,
-        }) => Some(Prepared {
+        Ok(
+            Prepared {
+                timeline,
+                runner,
+                engine,
+                scratch,
+            },
+        ) => Some(Prepared {
             timeline: with_places(timeline),
             runner,
             engine,

@@ -6,8 +6,8 @@ pub returns-in-Ok : goal.returns-in-Ok
 returns-in-Ok g c =
     let read = c.in-Ok.ensures in
     inr (inr (inl (
-        c.in-Ok.text.items,
-        (read.ok, read.end),
-        read.bound,
-        runs_same _ _ _ (string_bytes c.args.settings.now.top) c.args.settings.now.options _ _ c.deref.ensures.value c.simulate_text.ensures,
+      c.in-Ok.text.items,
+      (read.ok, read.end),
+      read.bound,
+      runs_same _ _ _ (string_bytes c.args.settings.now.top) c.args.settings.now.options _ _ c.deref.ensures.value c.simulate_text.ensures,
     )))
