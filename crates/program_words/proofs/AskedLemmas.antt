@@ -8,10 +8,10 @@ use Rattle.std.specs.Char.{to_ascii_lowercase}
 use Rattle.step_data.specs.Options.{IsAllowed}
 use Rattle.word_rules.specs.declared.mode.Mode.{Mode}
 use Rattle.word_rules.specs.declared.mode.Mode.TheVariants as mode
-use Rattle.word_rules.specs.Words.{Text, Request, value_of, mode_named, number_of, refusal, mode_of, top_of, request_of, IsInRange}
+use Rattle.word_rules.specs.Words.{Text, Request, value_of, mode_named, number_of, refusal, mode_of, top_of, schedule_of, request_of, IsInRange}
 use Rattle.word_rules.proofs.RangeLemmas.{in_range}
 use Rattle.program_words.specs.declared.settings.Settings.{Settings}
-use Rattle.program_words.specs.Asked.{asked, Values, number_from, mode_from, top_from, options_from, request_from}
+use Rattle.program_words.specs.Asked.{asked, Values, number_from, mode_from, top_from, options_from, schedule_from, request_from}
 
 number_same : (f g : Values) (default : ℕ) (name : Text) → f name ≡ g name → number_from f default name ≡ number_from g default name
 number_same f g default name h = ap (λ o. unwrap_or (option_and_then number_of o) default) h
@@ -21,6 +21,7 @@ mode_same f g h = ap (λ o. unwrap_or (option_and_then mode_named o) mode.Lockst
 
 top_at : (m : Mode) (f g : Values) → f (codes "top") ≡ g (codes "top") → top_from m f ≡ top_from m g
 top_at mode.Lockstep f g h = ap (λ o. map to_ascii_lowercase (unwrap_or o [])) h
+top_at mode.Replay f g h = ap (λ o. map to_ascii_lowercase (unwrap_or o [])) h
 top_at mode.Make f g h = refl
 
 top_same : (f g : Values) → f (codes "mode") ≡ g (codes "mode") → f (codes "top") ≡ g (codes "top") → top_from (mode_from f) f ≡ top_from (mode_from g) g
@@ -28,11 +29,15 @@ top_same f g m h = ap (λ n. top_from n f) (mode_same f g m) ∙ top_at (mode_fr
 
 top_is : (m : Mode) (words : List Text) → top_from m (λ name. value_of name words) ≡ top_of m words
 top_is mode.Lockstep words = refl
+top_is mode.Replay words = refl
 top_is mode.Make words = refl
 
-abbrev request_by : Mode → Text → ℕ → ℕ → ℕ → ℕ → ℕ → ℕ → ℕ → ℕ → ℕ → Request
-request_by m top size stop ahead h0 hmin hmax tol ltol xres =
-    record { mode = m; top = top; size = size; stop = stop; ahead = ahead; h0 = h0; hmin = hmin; hmax = hmax; tol = tol; ltol = ltol; xres = xres }
+schedule_same : (f g : Values) → f (codes "schedule") ≡ g (codes "schedule") → schedule_from f ≡ schedule_from g
+schedule_same f g h = ap (λ o. unwrap_or o []) h
+
+abbrev request_by : Mode → Text → ℕ → ℕ → ℕ → ℕ → ℕ → ℕ → ℕ → ℕ → ℕ → Text → Request
+request_by m top size stop ahead h0 hmin hmax tol ltol xres schedule =
+    record { mode = m; top = top; size = size; stop = stop; ahead = ahead; h0 = h0; hmin = hmin; hmax = hmax; tol = tol; ltol = ltol; xres = xres; schedule = schedule }
 
 pub request_same : (f : Values) (words : List Text) → ((name : Text) → f name ≡ value_of name words) → request_from f ≡ request_of words
 request_same f words h =
@@ -48,11 +53,13 @@ request_same f words h =
     let tol : number_from f 1000000 (codes "tol") ≡ number_from g 1000000 (codes "tol") = number_same f g 1000000 (codes "tol") (h (codes "tol")) in
     let ltol : number_from f 1000000000 (codes "ltol") ≡ number_from g 1000000000 (codes "ltol") = number_same f g 1000000000 (codes "ltol") (h (codes "ltol")) in
     let xres : number_from f 1 (codes "xres") ≡ number_from g 1 (codes "xres") = number_same f g 1 (codes "xres") (h (codes "xres")) in
-    all_same _ _ _ _ _ _ _ _ _ _ _ _ _ _ _ _ _ _ _ _ _ _ m top size stop ahead h0 hmin hmax tol ltol xres
+    let schedule : schedule_from f ≡ schedule_of words = schedule_same f g (h (codes "schedule")) in
+    all_same _ _ _ _ _ _ _ _ _ _ _ _ _ _ _ _ _ _ _ _ _ _ _ _ m top size stop ahead h0 hmin hmax tol ltol xres schedule
   where
-    all_same : (m m2 : Mode) (top top2 : Text) (size size2 stop stop2 ahead ahead2 h0 h02 hmin hmin2 hmax hmax2 tol tol2 ltol ltol2 xres xres2 : ℕ) → m ≡ m2 → top ≡ top2 → size ≡ size2 → stop ≡ stop2 → ahead ≡ ahead2 → h0 ≡ h02 →
-        hmin ≡ hmin2 → hmax ≡ hmax2 → tol ≡ tol2 → ltol ≡ ltol2 → xres ≡ xres2 → request_by m top size stop ahead h0 hmin hmax tol ltol xres ≡ request_by m2 top2 size2 stop2 ahead2 h02 hmin2 hmax2 tol2 ltol2 xres2
-    all_same m m2 top top2 size size2 stop stop2 ahead ahead2 h0 h02 hmin hmin2 hmax hmax2 tol tol2 ltol ltol2 xres xres2 e1 e2 e3 e4 e5 e6 e7 e8 e9 e10 e11 = cc
+    all_same : (m m2 : Mode) (top top2 : Text) (size size2 stop stop2 ahead ahead2 h0 h02 hmin hmin2 hmax hmax2 tol tol2 ltol ltol2 xres xres2 : ℕ) (schedule schedule2 : Text) → m ≡ m2 → top ≡ top2 → size ≡ size2 → stop ≡ stop2 → ahead ≡ ahead2 → h0 ≡ h02 →
+        hmin ≡ hmin2 → hmax ≡ hmax2 → tol ≡ tol2 → ltol ≡ ltol2 → xres ≡ xres2 → schedule ≡ schedule2 →
+        request_by m top size stop ahead h0 hmin hmax tol ltol xres schedule ≡ request_by m2 top2 size2 stop2 ahead2 h02 hmin2 hmax2 tol2 ltol2 xres2 schedule2
+    all_same m m2 top top2 size size2 stop stop2 ahead ahead2 h0 h02 hmin hmin2 hmax hmax2 tol tol2 ltol ltol2 xres xres2 schedule schedule2 e1 e2 e3 e4 e5 e6 e7 e8 e9 e10 e11 e12 = cc
 
 pub in_range_from : (f : Values) (words : List Text) → ((name : Text) → f name ≡ value_of name words) → refusal words ≡ None → IsInRange (request_from f)
 in_range_from f words h r = subst IsInRange (sym (request_same f words h)) (in_range words r)

@@ -2,10 +2,17 @@
 use Rattle.std.specs.Prelude.{ℕ, [], Option, unwrap_or, option_and_then, codes, map, string_bytes}
 use Rattle.std.specs.Char.{to_ascii_lowercase}
 use Rattle.step_data.specs.declared.outcome.Options.{Options}
+use Rattle.step_schedule.specs.declared.Step.{Step}
+use Rattle.step_schedule.specs.declared.Step.TheVariants as steps
 use Rattle.word_rules.specs.declared.mode.Mode.{Mode}
 use Rattle.word_rules.specs.declared.mode.Mode.TheVariants as mode
 use Rattle.word_rules.specs.Words.{Text, Request, mode_named, number_of}
 use Rattle.program_words.specs.declared.settings.Settings.{Settings}
+
+-- the letter of a step: `d` and `w`
+abbrev pub letter_of : Step → ℕ
+letter_of steps.D = 100
+letter_of steps.W = 119
 
 abbrev pub asked : Settings → Request
 asked s = record {
@@ -20,6 +27,7 @@ asked s = record {
   tol = s.options.tol;
   ltol = s.options.ltol;
   xres = s.options.xres;
+  schedule = map letter_of s.schedule.items;
 }
 
 -- the value that each option is given
@@ -34,7 +42,11 @@ mode_from values = unwrap_or (option_and_then mode_named (values (codes "mode"))
 
 abbrev pub top_from : Mode → Values → Text
 top_from mode.Lockstep values = map to_ascii_lowercase (unwrap_or (values (codes "top")) [])
+top_from mode.Replay values = map to_ascii_lowercase (unwrap_or (values (codes "top")) [])
 top_from mode.Make values = codes "ladder"
+
+abbrev pub schedule_from : Values → Text
+schedule_from values = unwrap_or (values (codes "schedule")) []
 
 abbrev pub options_from : Values → Options
 options_from values = record {
@@ -61,4 +73,5 @@ request_from values = record {
   tol = number_from values 1000000 (codes "tol");
   ltol = number_from values 1000000000 (codes "ltol");
   xres = number_from values 1 (codes "xres");
+  schedule = schedule_from values;
 }

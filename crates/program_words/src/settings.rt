@@ -1,4 +1,5 @@
 use step_data::Options;
+use step_schedule::Step;
 use word_rules::Mode;
 
 /// What accepted words ask for.
@@ -11,4 +12,6 @@ pub struct Settings {
     pub size: u32,
     /// The numbers of the run: times in ticks of 1 ps, tolerances in units of 10^-12.
     pub options: Options,
+    /// The first steps of a replay; none in the other modes.
+    pub schedule: Vec<Step>,
 }

@@ -1,9 +1,10 @@
-ghost use Rattle.std.specs.Prelude.{◌≡◌, None, IfOk, string_bytes, codes};
+ghost use Rattle.std.specs.Prelude.{◌≡◌, None, IfOk, string_bytes, codes, map, true};
+ghost use Rattle.std.specs.List.{list_all};
 ghost use Rattle.clap.specs.Matches.{found_of, first_value};
 ghost use Rattle.step_data.specs.Options.{IsAllowed};
 ghost use Rattle.word_rules.specs.declared.mode.Mode.{Mode};
-ghost use Rattle.word_rules.specs.Words.{texts, refusal, request_of, IsInRange};
-ghost use Rattle.program_words.specs.Asked.{asked, number_from, mode_from, top_from, options_from, request_from};
+ghost use Rattle.word_rules.specs.Words.{texts, refusal, request_of, is_step, IsInRange};
+ghost use Rattle.program_words.specs.Asked.{asked, letter_of, schedule_from, number_from, mode_from, top_from, options_from, request_from};
 
 use crate::command::matches_of;
 use crate::settings::Settings;
@@ -11,6 +12,7 @@ use clap::ArgMatches;
 use fix_core::Tick;
 use std::alloc::{AllocError, Global};
 use step_data::Options;
+use step_schedule::Step;
 use word_rules::{Mode, mode_named, number_of};
 
 // The number that an option is given, or its default.
@@ -36,7 +38,7 @@ fn top_of(alloc: Global, mode: Mode, matches: &ArgMatches) -> Result<String, All
     ensures { IfOk result (λ top. string_bytes top ≡ top_from mode (first_value (found_of matches.now))) }
 {
     match mode {
-        Mode::Lockstep => matches
+        Mode::Lockstep | Mode::Replay => matches
             .get_str("top")
             .unwrap_or("")
             .to_ascii_lowercase(alloc),
@@ -60,6 +62,35 @@ fn options_of(matches: &ArgMatches) -> Options
     }
 }
 
+// The step of a letter.
+fn step_of(letter: u8) -> Step
+    ensures { is_step letter ≡ true → letter_of result ≡ letter }
+{
+    if letter == b'w' { Step::W } else { Step::D }
+}
+
+// The steps of a schedule.
+fn steps_of(alloc: Global, letters: &[u8]) -> Result<Vec<Step>, AllocError>
+    requires { list_all is_step letters.now ≡ true }
+    ensures { IfOk result (λ steps. map letter_of steps.items ≡ letters.now) }
+{
+    let mut steps = Vec::new(alloc);
+    for letter in letters {
+        steps.push(step_of(*letter))?;
+    }
+    Ok(steps)
+}
+
+fn schedule_of(alloc: Global, matches: &ArgMatches) -> Result<Vec<Step>, AllocError>
+    requires { list_all is_step (schedule_from (first_value (found_of matches.now))) ≡ true }
+    ensures { IfOk result (λ steps. map letter_of steps.items ≡ schedule_from (first_value (found_of matches.now))) }
+{
+    match matches.get_str("schedule") {
+        Some(letters) => steps_of(alloc, letters.as_bytes()),
+        None => Ok(Vec::new(alloc)),
+    }
+}
+
 fn settings_of(alloc: Global, matches: &ArgMatches) -> Result<Settings, AllocError>
     requires { IsInRange (request_from (first_value (found_of matches.now))) }
     ensures asked { IfOk result (λ s. asked s ≡ request_from (first_value (found_of matches.now))) }
@@ -67,11 +98,13 @@ fn settings_of(alloc: Global, matches: &ArgMatches) -> Result<Settings, AllocErr
 {
     let mode = mode_of(matches);
     let top = top_of(alloc, mode, matches)?;
+    let schedule = schedule_of(alloc, matches)?;
     Ok(Settings {
         mode,
         top,
         size: number_or(0, "size", matches) as u32,
         options: options_of(matches),
+        schedule,
     })
 }
 

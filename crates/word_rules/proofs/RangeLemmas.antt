@@ -1,10 +1,11 @@
 -- What accepted words ask for is in range.
-use Rattle.std.proofs.Common.{◌≡◌, ℕ, ◌≤◌, ◌&&◌, Bool, true, false, cond, List, [], Option, Some, None, is_none, is_some, codes, refl, arith}
+use Rattle.std.proofs.Common.{◌≡◌, ℕ, ◌≤◌, ◌&&◌, Bool, true, false, cond, List, [], Option, Some, None, is_none, is_some, codes, refl, arith, length}
 use Rattle.std.specs.Prelude.{nat_le, unwrap_or, option_and_then}
+use Rattle.std.specs.List.{list_all}
 use Rattle.std.specs.Option.{option_map_or}
 use Rattle.std.proofs.lemmas.Bool.{and_parts}
 use Rattle.std.proofs.lemmas.Bool.Decides.{nat_tests}
-use Rattle.word_rules.specs.Words.{Text, value_of, number_of, is_allowed, is_number_in, suits, mode_of, is_whole, refused_behind, refusal, number_or, request_of, IsInRange}
+use Rattle.word_rules.specs.Words.{Text, value_of, number_of, is_allowed, is_number_in, is_step, is_schedule, schedule_of, suits, mode_of, is_whole, refused_behind, refusal, number_or, request_of, IsInRange}
 use Rattle.word_rules.proofs.ReadLemmas.{reads, value_allowed}
 
 accepted : (o : Option ℕ) (b : Bool) → cond (is_some o) o (cond b None (Some 0)) ≡ None → (o ≡ None) × (b ≡ true)
@@ -50,6 +51,26 @@ size_widens (Some n) h = both (nat_le 0 n) (nat_le n 15) (grind (arith, nat_test
 size_fits : (value : Text) → is_number_in 1 15 value ≡ true → is_number_in 0 15 value ≡ true
 size_fits value h = size_widens (number_of value) h
 
+-- a schedule is short, and of letters that are steps
+Steps : Text → Type 0
+Steps text = (length text ≤ 4096) × (list_all is_step text ≡ true)
+
+are_steps : (text : Text) → is_schedule text ≡ true → Steps text
+unfolding Steps
+are_steps text h =
+    let both = and_parts (nat_le 1 (length text) && nat_le (length text) 4096) (list_all is_step text) h in
+    let few = (and_parts (nat_le 1 (length text)) (nat_le (length text) 4096) both.0).1 in
+    (grind (arith, nat_tests), both.1)
+
+given_steps : (words : List Text) (found : Option Text) → value_of (codes "schedule") words ≡ found → refused_behind [] None words ≡ None → Steps (unwrap_or found [])
+unfolding Steps is_allowed
+given_steps words None e h = (omega arith, refl)
+given_steps words (Some value) e h = are_steps value (given_is_allowed words (codes "schedule") value h e)
+
+schedule_fits : (words : List Text) → refused_behind [] None words ≡ None → (length (schedule_of words) ≤ 4096) × (list_all is_step (schedule_of words) ≡ true)
+unfolding Steps
+schedule_fits words h = given_steps words (value_of (codes "schedule") words) refl h
+
 pub in_range : (words : List Text) → refusal words ≡ None → IsInRange (request_of words)
 unfolding is_whole is_allowed
 in_range words h =
@@ -66,6 +87,7 @@ in_range words h =
     let tol = fits (codes "tol") words 1 1000000000000000 1000000 (λ value a. a) right.0 (λ none. (omega arith, omega arith)) in
     let ltol = fits (codes "ltol") words 1 1000000000000000 1000000000 (λ value a. a) right.0 (λ none. (omega arith, omega arith)) in
     let xres = fits (codes "xres") words 1 1000000000 1 (λ value a. a) right.0 (λ none. (omega arith, omega arith)) in
+    let schedule = schedule_fits words right.0 in
     let low = three.1 in
     let high = four.1 in
     record {
@@ -83,6 +105,8 @@ in_range words h =
       ltol_most = ltol.1;
       xres_least = xres.0;
       xres_most = xres.1;
+      schedule_most = schedule.0;
+      schedule_steps = schedule.1;
     }
 
 pub ruleset range_rules = (in_range)

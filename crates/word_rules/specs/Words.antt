@@ -1,6 +1,6 @@
 -- The words of the command line: options in any order, each at most once, as two words `--name value` or as one word
 -- `--name=value`.
-use Rattle.std.specs.Prelude.{ℕ, ◌≤◌, ◌+◌, ◌==◌, ◌&&◌, ◌||◌, Bool, true, false, not, List, [], ◌∷◌, ◌++◌, Option, Some, None, if◌then◌else◌, length, map, nat_le, codes, bytes_eq, is_some, unwrap_or, option_and_then, String, string_bytes}
+use Rattle.std.specs.Prelude.{◌≡◌, ℕ, ◌≤◌, ◌+◌, ◌==◌, ◌&&◌, ◌||◌, Bool, true, false, not, List, [], ◌∷◌, ◌++◌, Option, Some, None, if◌then◌else◌, length, map, nat_le, codes, bytes_eq, is_some, unwrap_or, option_and_then, String, string_bytes}
 use Rattle.std.specs.List.{list_all, list_any}
 use Rattle.std.specs.Option.{option_map_or}
 use Rattle.std.specs.declared.alloc.Global.{Global}
@@ -84,6 +84,7 @@ is_schedule text = nat_le 1 (length text) && nat_le (length text) 4096 && list_a
 unfoldable pub mode_named : Text → Option Mode
 mode_named value =
     if bytes_eq value (codes "lockstep") then Some mode.Lockstep
+    else if bytes_eq value (codes "replay") then Some mode.Replay
     else if bytes_eq value (codes "make") then Some mode.Make
     else None
 
@@ -135,6 +136,7 @@ number_or default name words = unwrap_or (option_and_then number_of (value_of na
 abbrev pub suits : Mode → List Text → Bool
 suits mode.Lockstep words =
     is_given (codes "top") words && not (is_given (codes "size") words) && not (is_given (codes "schedule") words)
+suits mode.Replay words = is_given (codes "top") words && not (is_given (codes "size") words)
 suits mode.Make words =
     is_given (codes "size") words && not (is_given (codes "top") words) && not (is_given (codes "schedule") words)
 
@@ -165,11 +167,17 @@ pub record Request : Type 0 where
   pub tol : ℕ
   pub ltol : ℕ
   pub xres : ℕ
+  pub schedule : Text
 
 -- the name of the top is kept in lower case, as identifiers are; that of the generated design is `ladder`
 abbrev pub top_of : Mode → List Text → Text
 top_of mode.Lockstep words = map to_ascii_lowercase (unwrap_or (value_of (codes "top") words) [])
+top_of mode.Replay words = map to_ascii_lowercase (unwrap_or (value_of (codes "top") words) [])
 top_of mode.Make words = codes "ladder"
+
+-- the letters of a schedule, none where it isn't given
+abbrev pub schedule_of : List Text → Text
+schedule_of words = unwrap_or (value_of (codes "schedule") words) []
 
 abbrev pub request_of : List Text → Request
 request_of words = record {
@@ -184,6 +192,7 @@ request_of words = record {
   tol = number_or 1000000 (codes "tol") words;
   ltol = number_or 1000000000 (codes "ltol") words;
   xres = number_or 1 (codes "xres") words;
+  schedule = schedule_of words;
 }
 
 pub record IsInRange (request : Request) : Type 0 where
@@ -201,3 +210,5 @@ pub record IsInRange (request : Request) : Type 0 where
   pub ltol_most : request.ltol ≤ 1000000000000000
   pub xres_least : 1 ≤ request.xres
   pub xres_most : request.xres ≤ 1000000000
+  pub schedule_most : length request.schedule ≤ 4096
+  pub schedule_steps : list_all is_step request.schedule ≡ true

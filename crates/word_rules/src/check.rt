@@ -35,6 +35,7 @@ fn suits(mode: Mode, words: &[String]) -> bool
     let schedule = value_of("schedule", words).is_some();
     match mode {
         Mode::Lockstep => top && !size && !schedule,
+        Mode::Replay => top && !size,
         Mode::Make => size && !top && !schedule,
     }
 }

@@ -6,6 +6,8 @@ ghost use Rattle.word_rules.specs.Words.{mode_named};
 pub enum Mode {
     /// Reads a design and simulates it, the analogue kernel in step with the digital one.
     Lockstep,
+    /// As lockstep, with attempts saved ahead in the order of a schedule, and a report of them.
+    Replay,
     /// Simulates a generated design, and writes how many lines of each kind its trace has.
     Make,
 }
@@ -17,6 +19,8 @@ pub fn mode_named(name: &str) -> Option<Mode>
 {
     if name == "lockstep" {
         Some(Mode::Lockstep)
+    } else if name == "replay" {
+        Some(Mode::Replay)
     } else if name == "make" {
         Some(Mode::Make)
     } else {
