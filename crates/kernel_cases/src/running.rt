@@ -1,9 +1,8 @@
 //! From a text to its trace.
-ghost use Rattle.std.specs.Prelude.{◌≡◌};
 ghost use Rattle.step_data.specs.Options.{IsAllowed};
 ghost use Rattle.design_rules.specs.Design.{IsDesign};
-ghost use Rattle.system_model.specs.System.{system_of};
 
+use design_modes::run_design;
 use design_reading::{Unread, read_design};
 use flat_design::Flat;
 use ladder::ladder_text;
@@ -11,12 +10,8 @@ use port_io::MemSink;
 use program_words::Settings;
 use std::alloc::Global;
 use std::io;
-use std::marker::Brand;
-use step_data::End;
-use step_model::Design;
 use text_designs::texts_give_designs;
 use trace_sink::TraceFault;
-use whole_run::run_whole;
 use word_rules::Mode;
 
 /// The most bytes of a text.
@@ -29,28 +24,13 @@ fn print_bytes(rt: &impl Print, bytes: &[u8]) -> io::Result<()> {
     }
 }
 
-/// Runs the named design.
-fn run_named<D: Design>(
-    alloc: Global,
-    flat: &Flat,
-    settings: &Settings,
-    trace: &mut MemSink,
-) -> Result<End, TraceFault>
-    requires design { IsDesign flat.now }
-    requires system { D.system 0 ≡ system_of flat.now settings.now.options }
-    requires allowed { IsAllowed settings.now.options }
-{
-    let top = settings.top.as_str();
-    run_whole::<D, MemSink>(alloc, flat, top, &settings.options, trace)
-}
-
 /// Runs a flat design, and prints its trace. A sink in memory fails where there is no memory for a piece.
 fn run_flat(rt: &impl Print, alloc: Global, flat: &Flat, settings: &Settings) -> io::Result<()>
     requires design { IsDesign flat.now }
     requires allowed { IsAllowed settings.now.options }
 {
     let mut trace = MemSink::new(alloc, Vec::new(alloc));
-    match run_named::<Brand>(alloc, flat, settings, &mut trace) {
+    match run_design(alloc, flat, &settings.top, &settings.options, &mut trace) {
         Ok(_) => print_bytes(rt, trace.bytes()),
         Err(TraceFault::Memory) => println!(rt; "no memory for the run"),
         Err(TraceFault::WriteFault) => println!(rt; "no memory for the trace"),

@@ -13,8 +13,8 @@ use Rattle.program_output.specs.Port.{Port, Fails}
 use Rattle.program_output.specs.Output.{Output, HandsOn}
 use Rattle.program_output.specs.declared.status.Status.{Status}
 use Rattle.program_output.specs.declared.status.Status.TheVariants as status
-use Rattle.text_start.specs.Start.{most_bytes}
-use Rattle.text_run.specs.TextRun.{text_output, RunsText}
+use Rattle.text_modes.specs.Start.{most_bytes}
+use Rattle.text_modes.specs.TextRun.{text_output, RunsText}
 use Rattle.sim_top.specs.Outcome.{options_of, Simulates, Performs, EndsBy}
 use Rattle.one_output.specs.Whole.{HandsOnAll, OutputsAreWhole}
 

@@ -9,8 +9,8 @@ use Rattle.program_output.specs.Port.{Port, Fails, Gains}
 use Rattle.program_output.specs.Output.{Output}
 use Rattle.program_output.specs.declared.status.Status.{Status}
 use Rattle.program_output.specs.declared.status.Status.TheVariants as status
-use Rattle.text_start.specs.Start.{most_bytes}
-use Rattle.text_run.specs.TextRun.{text_output}
+use Rattle.text_modes.specs.Start.{most_bytes}
+use Rattle.text_modes.specs.TextRun.{text_output}
 use Rattle.sim_top.specs.Outcome.{options_of, Ends}
 
 -- a call in mode lockstep on a text that isn't too long, neither source nor sinks of which fail

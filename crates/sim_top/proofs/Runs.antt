@@ -3,7 +3,7 @@ use Rattle.std.proofs.Common.{◌≡◌, ℕ, List, subst}
 use Rattle.step_data.specs.declared.outcome.Options.{Options}
 use Rattle.program_output.specs.Port.{Port}
 use Rattle.program_output.specs.declared.status.Status.{Status}
-use Rattle.text_run.specs.TextRun.{RunsText}
+use Rattle.text_modes.specs.TextRun.{RunsText}
 
 pub runs_same : (s : Status) (text other top : List ℕ) (options : Options) (trace notes : Port) → text ≡ other → RunsText s text top options trace notes →
     RunsText s other top options trace notes

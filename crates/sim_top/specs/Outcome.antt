@@ -8,10 +8,10 @@ use Rattle.program_output.specs.Port.{Port, Stays, Fails, ReadsAll}
 use Rattle.program_output.specs.Output.{Output, HandsOn, HandsOnNothing, Tells, noted}
 use Rattle.program_output.specs.declared.status.Status.{Status}
 use Rattle.program_output.specs.declared.status.Status.TheVariants as status
-use Rattle.text_start.specs.Start.{most_bytes}
-use Rattle.text_run.specs.TextRun.{RunsText}
+use Rattle.text_modes.specs.Start.{most_bytes}
+use Rattle.text_modes.specs.TextRun.{RunsText}
 use Rattle.ladder.specs.Ladder.{ladder_text}
-use Rattle.make_run.specs.Making.{MakesText}
+use Rattle.text_modes.specs.Making.{MakesText}
 
 -- the options of a run, of what is asked for
 abbrev pub options_of : Request → Options

@@ -1,2 +1,0 @@
-pub mod LadderLength
-pub mod Outputs

@@ -1,0 +1,4 @@
+pub mod Handing
+pub mod LadderLength
+pub mod Making
+pub mod Replaying

@@ -1,0 +1,4 @@
+pub mod Making
+pub mod Start
+pub mod TextReplay
+pub mod TextRun
