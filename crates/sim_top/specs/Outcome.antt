@@ -1,6 +1,8 @@
 -- The output of the program, and how a call of it ends.
-use Rattle.std.specs.Prelude.{◌≡◌, ℕ, ◌<◌, ◌≤◌, List, ◌++◌, length, codes, decimal, Option, Some, None, IfSome, ◌⊎◌}
+use Rattle.std.specs.Prelude.{◌≡◌, ℕ, ◌<◌, ◌≤◌, ◌==◌, List, ◌++◌, length, map, codes, decimal, Option, Some, None, IfSome, if◌then◌else◌, ◌⊎◌}
 use Rattle.step_data.specs.declared.outcome.Options.{Options}
+use Rattle.step_schedule.specs.declared.Step.{Step}
+use Rattle.step_schedule.specs.declared.Step.TheVariants as steps
 use Rattle.word_rules.specs.declared.mode.Mode.{Mode}
 use Rattle.word_rules.specs.declared.mode.Mode.TheVariants as mode
 use Rattle.word_rules.specs.Words.{Text, Request, refusal, request_of}
@@ -10,6 +12,7 @@ use Rattle.program_output.specs.declared.status.Status.{Status}
 use Rattle.program_output.specs.declared.status.Status.TheVariants as status
 use Rattle.text_modes.specs.Start.{most_bytes}
 use Rattle.text_modes.specs.TextRun.{RunsText}
+use Rattle.text_modes.specs.TextReplay.{ReplaysText}
 use Rattle.ladder.specs.Ladder.{ladder_text}
 use Rattle.text_modes.specs.Making.{MakesText}
 
@@ -51,17 +54,30 @@ TellsOrLacks note own s notes = Tells note own s notes ⊎ (s ≡ status.Memory)
 
 -- ---- the modes
 
--- In mode lockstep a call that ends with this status
-abbrev pub Simulates : Status → Request → Port → Port → Port → Type 0
-Simulates s request source trace notes =
+-- A call that ends with this status and hands on what its text gives in such a way
+abbrev pub Reads : (Text → Type 0) → Status → Port → Port → Port → Type 0
+Reads Handed s source trace notes =
     -- couldn't read the source,
     (s ≡ status.ReadFault) × Fails source × Stays trace × Stays notes
     -- or refused it for its length,
     ⊎ HasTooMany source × HandsOn too_long s trace notes
     -- or read all of it and handed on what this text gives,
-    ⊎ ((text : Text) × ReadsAll source text × (length text ≤ most_bytes) × RunsText s text request.top (options_of request) trace notes)
+    ⊎ ((text : Text) × ReadsAll source text × (length text ≤ most_bytes) × Handed text)
     -- or had no memory for it
     ⊎ HandsOnNothing s trace notes
+
+-- In mode lockstep that is the run of the text.
+abbrev pub Simulates : Status → Request → Port → Port → Port → Type 0
+Simulates s request source trace notes = Reads (λ text. RunsText s text request.top (options_of request) trace notes) s source trace notes
+
+-- the step of a letter: `w` is the worker's, the other one the engine's
+abbrev pub step_of : ℕ → Step
+step_of letter = if letter == 119 then steps.W else steps.D
+
+-- In mode replay that is its replay by the schedule.
+abbrev pub Replays : Status → Request → Port → Port → Port → Type 0
+Replays s request source trace notes =
+    Reads (λ text. ReplaysText s text request.top (options_of request) (map step_of request.schedule) trace notes) s source trace notes
 
 -- In mode make it has handed on what the text of the generated ladder gives, and has read nothing.
 abbrev pub Makes : Status → Request → Port → Port → Port → Type 0
@@ -69,6 +85,7 @@ Makes s request source trace notes = Stays source × MakesText s (ladder_text re
 
 abbrev pub Performs : Mode → Status → Request → Port → Port → Port → Type 0
 Performs mode.Lockstep s request source trace notes = Simulates s request source trace notes
+Performs mode.Replay s request source trace notes = Replays s request source trace notes
 Performs mode.Make s request source trace notes = Makes s request source trace notes
 
 -- ---- the whole

@@ -2,6 +2,7 @@
 #![tactic(auto)]
 
 mod refusals;
+mod replay;
 mod top;
 
 pub use program_output::Status;

@@ -10,6 +10,9 @@ use port_io::Sink;
 use program_output::{Status, tell};
 use std::alloc::{AllocError, Global};
 
+/// The greatest length of a text.
+pub const MOST_BYTES: usize = 1_048_576;
+
 /// The note of a refused word.
 fn usage_note(alloc: Global, number: u32) -> Result<Vec<u8>, AllocError>
     ensures { IfOk result (λ note. note.items ≡ usage_note number) }

@@ -5,18 +5,18 @@ ghost use Rattle.word_rules.specs.Words.{texts};
 ghost use Rattle.program_words.specs.Asked.{asked};
 ghost use Rattle.program_output.specs.Port.{port};
 ghost use Rattle.sim_top.specs.Outcome.{Simulates, Performs, Ends};
+ghost use Rattle.sim_top.specs.Points.{PointsAreMet};
 
-use crate::refusals::{refuse_length, refuse_words};
-use make_run::make_ladder;
+use crate::refusals::{MOST_BYTES, refuse_length, refuse_words};
+use crate::replay::run_by_schedule;
+use design_run::lines_of_run;
+use point_laws::points_meet_their_equations;
 use port_io::{ReadAll, Sink, Source, read_all};
 use program_output::Status;
 use program_words::{Settings, read_settings};
 use std::alloc::Global;
-use text_run::simulate_text;
+use text_modes::{make_ladder, simulate_text};
 use word_rules::{Mode, check_words};
-
-/// The greatest length of a text.
-const MOST_BYTES: usize = 1_048_576;
 
 /// Mode lockstep: a text is read from the source, and its top is run, the analogue kernel in step with the digital one.
 fn run_in_lockstep<S: Source, K: Sink, E: Sink>(
@@ -57,12 +57,13 @@ fn perform<S: Source, K: Sink, E: Sink>(
 {
     match settings.mode {
         Mode::Lockstep => run_in_lockstep(alloc, settings, source, trace, notes),
+        Mode::Replay => run_by_schedule(alloc, settings, source, trace, notes),
         Mode::Make => make_ladder(alloc, settings.size, &settings.options, trace, notes),
     }
 }
 
-/// Runs the program: judges the words, reads a design from the source, simulates it, and writes its trace and its notes.
-pub fn simulate_plain<S: Source, K: Sink, E: Sink>(
+/// Judges the words, and does what accepted ones ask for.
+fn judge_and_perform<S: Source, K: Sink, E: Sink>(
     alloc: Global,
     words: &[String],
     source: &mut S,
@@ -81,4 +82,25 @@ pub fn simulate_plain<S: Source, K: Sink, E: Sink>(
         },
         Err(number) => refuse_words(alloc, number, notes),
     }
+}
+
+/// Runs the program: judges the words, reads a design from the source, simulates it, and writes its trace and its notes.
+pub fn simulate_plain<S: Source, K: Sink, E: Sink>(
+    alloc: Global,
+    words: &[String],
+    source: &mut S,
+    trace: &mut K,
+    notes: &mut E,
+) -> Status
+    ensures ends { Ends result (texts words.now)
+        (port (S.left source.old) (S.left source.new) (S.faults source.old) (S.faults source.new))
+        (port (K.held trace.old) (K.held trace.new) (K.faults trace.old) (K.faults trace.new))
+        (port (E.held notes.old) (E.held notes.new) (E.faults notes.old) (E.faults notes.new)) }
+    ensures points { PointsAreMet (texts words.now)
+        (port (S.left source.old) (S.left source.new) (S.faults source.old) (S.faults source.new))
+        (port (K.held trace.old) (K.held trace.new) (K.faults trace.old) (K.faults trace.new)) }
+{
+    points_meet_their_equations();
+    lines_of_run();
+    judge_and_perform(alloc, words, source, trace, notes)
 }
