@@ -16,7 +16,7 @@ use Rattle.program_output.specs.declared.status.Status.TheVariants as status
 use Rattle.text_modes.specs.Start.{most_bytes}
 use Rattle.text_modes.specs.TextRun.{text_output, RunsText}
 use Rattle.sim_top.specs.Outcome.{options_of, Simulates, Performs, EndsBy}
-use Rattle.one_output.specs.Whole.{HandsOnAll, OutputsAreWhole}
+use Rattle.sim_top.specs.Whole.{HandsOnAll, OutputsAreWhole}
 
 some_same : {A : Type 0} (x y : A) → Some x ≡ Some y → x ≡ y
 some_same x y h = cc

@@ -1,5 +1,5 @@
 //! What a call leaves where nothing fails.
-ghost use Rattle.one_output.specs.Whole.{OutputsAreWhole};
+ghost use Rattle.sim_top.specs.Whole.{OutputsAreWhole};
 
 use one_reading::texts_are_read_once;
 
