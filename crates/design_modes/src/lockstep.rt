@@ -7,6 +7,7 @@ ghost use Rattle.system_model.specs.Trace.{run_of};
 ghost use Rattle.trace_sink.specs.Puts.{Puts};
 ghost use Rattle.design_run.specs.Lines.{run_lines};
 
+use crate::lockstep_whole::run_whole;
 use flat_design::Flat;
 use port_io::Sink;
 use std::alloc::Global;
@@ -14,7 +15,6 @@ use std::marker::Brand;
 use step_data::{End, Options};
 use step_model::Design;
 use trace_sink::TraceFault;
-use crate::lockstep_whole::run_whole;
 
 /// Runs the named design. Its top comes in a `String`, since a call with a `&str` can't name a design.
 fn run_named<D: Design, K: Sink>(

@@ -6,8 +6,8 @@ ghost use Rattle.system_model.specs.Trace.{run_of};
 ghost use Rattle.trace_sink.specs.Puts.{Puts};
 ghost use Rattle.run_counts.specs.Counts.{counted, made_lines};
 
-use crate::made_lines::put_run;
 use crate::counted_whole::count_design;
+use crate::made_lines::put_run;
 use flat_design::Flat;
 use port_io::Sink;
 use std::alloc::Global;

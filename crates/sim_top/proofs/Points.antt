@@ -30,7 +30,7 @@ lines_front : (n : ℕ) (lines : List (List ℕ)) → take (length (text_of_line
 lines_front n lines =
     let first = text_of_lines (take n lines) in
     let whole : text_of_lines lines ≡ first ++ text_of_lines (drop n lines) =
-        ap text_of_lines (sym (take-append-drop n lines)) ∙ text_append (take n lines) (drop n lines) in
+    ap text_of_lines (sym (take-append-drop n lines)) ∙ text_append (take n lines) (drop n lines) in
     ap (λ (t : List ℕ). take (length first) t) whole ∙ take-append_seam first (text_of_lines (drop n lines))
 
 module _ (output : Output) (s : Status) (trace notes : Port) where
@@ -44,9 +44,10 @@ module _ (output : Output) (s : Status) (trace notes : Port) where
   front_of (inr (inl h)) = h.1.0.1
   front_of (inr (inr (inl h))) = whole_front h.1.0
   front_of (inr (inr (inr h))) =
-      let first = h.1.0 in
-      (length (text_of_lines (take first.0 output.lines)),
-       first.1 ∙ ap (λ (l : List ℕ). with_more trace.before l) (sym (lines_front first.0 output.lines)))
+      let first = h.1.0 in (
+        length (text_of_lines (take first.0 output.lines)),
+        first.1 ∙ ap (λ (l : List ℕ). with_more trace.before l) (sym (lines_front first.0 output.lines)),
+      )
 
 -- beside a note no trace
 take_none : (n : ℕ) → take {A = ℕ} n [] ≡ []

@@ -28,7 +28,13 @@ pub fn run_by_schedule<S: Source, K: Sink, E: Sink>(
     let schedule = settings.schedule.as_slice();
     match read_all(alloc, source, MOST_BYTES) {
         Ok(text) => replay_text(
-            alloc, &text, &settings.top, &settings.options, schedule, trace, notes,
+            alloc,
+            &text,
+            &settings.top,
+            &settings.options,
+            schedule,
+            trace,
+            notes,
         ),
         Err(ReadAll::ReadFault) => Status::ReadFault,
         Err(ReadAll::TooLong) => refuse_length(notes),

@@ -5,13 +5,13 @@ ghost use Rattle.program_output.specs.Port.{port};
 ghost use Rattle.text_modes.specs.Start.{most_bytes};
 ghost use Rattle.text_modes.specs.TextRun.{RunsText};
 
+use crate::start::read_or_refuse;
 use design_modes::run_design;
 use port_io::Sink;
 use program_output::Status;
 use run_status::{run_status, runs_hand_on};
 use std::alloc::Global;
 use step_data::Options;
-use crate::start::read_or_refuse;
 
 /// Reads a text, and runs the flat design of its top in lockstep, or writes the note of the refusal that comes first.
 pub fn simulate_text<K: Sink, E: Sink>(

@@ -6,14 +6,14 @@ ghost use Rattle.program_output.specs.Port.{port};
 ghost use Rattle.text_modes.specs.Start.{most_bytes};
 ghost use Rattle.text_modes.specs.Making.{MakesText};
 
-use ladder::ladder_text;
+use crate::start::read_or_refuse;
 use design_modes::make_design;
+use ladder::ladder_text;
 use port_io::Sink;
 use program_output::Status;
 use run_status::run_status;
 use std::alloc::Global;
 use step_data::Options;
-use crate::start::read_or_refuse;
 
 /// Reads a text, and runs the flat design of its `ladder`, or writes the note of the refusal that comes first.
 fn make_text<K: Sink, E: Sink>(

@@ -5,8 +5,8 @@ ghost use Rattle.program_output.specs.Port.{port};
 ghost use Rattle.text_modes.specs.Start.{most_bytes};
 ghost use Rattle.text_modes.specs.TextReplay.{TellsReplay, TellsUnread, ReplaysText};
 
-use design_modes::replay_design;
 use ahead_report::report_note;
+use design_modes::replay_design;
 use design_reading::{Unread, read_design};
 use port_io::Sink;
 use program_output::{Status, tell};

@@ -10,5 +10,5 @@ returns-in-Ok g c =
       (read.ok, read.end),
       read.bound,
       replays_same _ _ _ (string_bytes c.args.settings.now.top) c.args.settings.now.options c.as_slice-schedule.result.now c.args.settings.now.schedule.items _ _ c.deref.ensures.value
-      c.as_slice-schedule.ensures.value c.replay_text.ensures,
+          c.as_slice-schedule.ensures.value c.replay_text.ensures,
     )))
