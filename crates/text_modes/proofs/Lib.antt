@@ -1,4 +1,4 @@
 pub mod Handing
 pub mod LadderLength
-pub mod Making
+pub mod Ladders
 pub mod Replaying

@@ -3,7 +3,7 @@ use Rattle.ladder.specs.Ladder.{ladder_text}
 use Rattle.program_output.specs.Port.{port}
 use Rattle.text_modes.specs.Start.{most_bytes}
 use Rattle.text_modes.proofs.LadderLength.{ladder_short}
-use Rattle.text_modes.proofs.Making.{text_is}
+use Rattle.text_modes.proofs.Ladders.{text_is}
 use Rattle.text_modes.proofs.making.make_ladder.Goals as goal
 
 pub make_text-requires : goal.make_text-requires

@@ -1,6 +1,6 @@
 use Rattle.std.proofs.Common.{refl}
 use Rattle.program_output.specs.Port.{port}
-use Rattle.text_modes.proofs.Making.{made_text, refused_text}
+use Rattle.text_modes.proofs.Ladders.{made_text, refused_text}
 use Rattle.text_modes.proofs.making.make_text.Goals as goal
 
 pub returns-in-Ok : goal.returns-in-Ok
