@@ -1,5 +1,5 @@
 -- What a call has written is a front of a trace whose points meet their equations, or nothing.
-use Rattle.std.proofs.Common.{◌≡◌, ◌⊎◌, ℕ, zero, suc, ◌≤◌, List, [], ◌∷◌, ◌++◌, Option, Some, None, Result, Ok, Err, length, take, refl, sym, ap, subst, ◌∙◌, arith, inl, inr}
+use Rattle.std.proofs.Common.{◌≡◌, ◌⊎◌, ℕ, zero, suc, List, [], ◌++◌, Option, Some, None, Ok, Err, length, take, refl, sym, ap, subst, ◌∙◌, arith, inl, inr}
 use Rattle.std.specs.Prelude.{drop}
 use Rattle.std.proofs.lemmas.List.{take_all, take-append-drop}
 use Rattle.std.proofs.Math.Seq.{take-append_seam}
@@ -20,7 +20,7 @@ use Rattle.program_output.specs.Output.{Output, HandsOn, noted}
 use Rattle.program_output.specs.declared.status.Status.{Status}
 use Rattle.text_modes.specs.TextRun.{RunsText}
 use Rattle.text_modes.specs.TextReplay.{ReplaysText}
-use Rattle.sim_top.specs.Outcome.{options_of, Reads, Performs, EndsBy, Ends, step_of}
+use Rattle.sim_top.specs.Outcome.{options_of, Reads, Performs, EndsBy, Ends}
 use Rattle.sim_top.specs.Points.{IsMet, PointsIn, PointsBy, PointsAreMet}
 
 -- ---- a front of an output's lines
@@ -40,11 +40,11 @@ module _ (output : Output) (s : Status) (trace notes : Port) where
       (length t, e ∙ ap (λ (l : List ℕ). with_more trace.before l) (sym (take_all (length t) t (omega arith))))
 
   front_of : HandsOn output s trace notes → GainsFront trace.before trace.now (text_of_lines output.lines)
-  front_of (inl h) = whole_front h.1.0
-  front_of (inr (inl h)) = h.1.0.1
-  front_of (inr (inr (inl h))) = whole_front h.1.0
+  front_of (inl h) = whole_front h.1
+  front_of (inr (inl h)) = h.1.1
+  front_of (inr (inr (inl h))) = whole_front h.1
   front_of (inr (inr (inr h))) =
-      let first = h.1.0 in (
+      let first = h.1 in (
         length (text_of_lines (take first.0 output.lines)),
         first.1 ∙ ap (λ (l : List ℕ). with_more trace.before l) (sym (lines_front first.0 output.lines)),
       )
@@ -77,20 +77,20 @@ module _ (meet : (objects : Objects) (top : List ℕ) (options : Options) → Te
   by_run : (text : Text) → ReadsAll source text → RunsText s text request.top (options_of request) trace notes → Stays trace ⊎ IsMet request source trace
   by_run text read (inl (Ok objects, gives, hands)) = inr (is_met text objects read gives (front_of _ s trace notes hands))
   by_run text read (inl (Err note, gives, hands)) = inl (stays_beside _ s note trace notes hands)
-  by_run text read (inr lacks) = inl lacks.1.0
+  by_run text read (inr lacks) = inl lacks.1
 
   by_replay : (schedule : List Step) (text : Text) → ReadsAll source text → ReplaysText s text request.top (options_of request) schedule trace notes →
       Stays trace ⊎ IsMet request source trace
   by_replay schedule text read (inl (Ok objects, gives, hands)) = inr (is_met text objects read gives (front_of _ s trace notes hands))
   by_replay schedule text read (inl (Err note, gives, hands)) = inl (stays_beside _ s note trace notes hands)
-  by_replay schedule text read (inr lacks) = inl lacks.1.0
+  by_replay schedule text read (inr lacks) = inl lacks.1
 
   by_source : (Handed : Text → Type 0) → ((text : Text) → ReadsAll source text → Handed text → Stays trace ⊎ IsMet request source trace) → Reads Handed s source trace notes →
       Stays trace ⊎ IsMet request source trace
-  by_source Handed by (inl h) = inl h.1.1.0
+  by_source Handed by (inl h) = inl h.2
   by_source Handed by (inr (inl h)) = inl (stays_beside _ s _ trace notes h.1)
-  by_source Handed by (inr (inr (inl h))) = by h.0 h.1.0 h.1.1.1
-  by_source Handed by (inr (inr (inr h))) = inl h.1.0
+  by_source Handed by (inr (inr (inl h))) = by h.0 h.1 h.3
+  by_source Handed by (inr (inr (inr h))) = inl h.1
 
   by_mode : (m : Mode) → Performs m s request source trace notes → PointsIn m request source trace
   by_mode mode.Lockstep h = by_source _ by_run h
@@ -105,7 +105,7 @@ module _ (meet : (objects : Objects) (top : List ℕ) (options : Options) → Te
   by_words : (number : Option ℕ) → EndsBy number s request source trace notes → PointsBy number request source trace
   by_words (Some number) h = stays_beside _ s _ trace notes h.1
   by_words None (inl h) = by_mode request.mode h
-  by_words None (inr h) = without_memory request.mode h.1.1.0
+  by_words None (inr h) = without_memory request.mode h.1.1
 
 pub points_of_call : ((objects : Objects) (top : List ℕ) (options : Options) → TextMeets objects top options (system.trace objects top options)) → LinesOfRun →
     (s : Status) (words : List Text) (source trace notes : Port) → Ends s words source trace notes → PointsAreMet words source trace

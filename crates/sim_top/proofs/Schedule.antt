@@ -1,5 +1,5 @@
 -- The steps of a schedule's letters.
-use Rattle.std.proofs.Common.{◌≡◌, ℕ, List, [], ◌∷◌, map, refl, ap, ap2, subst, sym, ◌∙◌}
+use Rattle.std.proofs.Common.{◌≡◌, ℕ, List, [], ◌∷◌, map, refl, ap, subst, ◌∙◌}
 use Rattle.step_data.specs.declared.outcome.Options.{Options}
 use Rattle.step_schedule.specs.declared.Step.{Step}
 use Rattle.step_schedule.specs.declared.Step.TheVariants as steps
@@ -15,7 +15,7 @@ step_again steps.W = refl
 
 pub steps_again : (schedule : List Step) → schedule ≡ map step_of (map letter_of schedule)
 steps_again [] = refl
-steps_again (step ∷ schedule) = ap2 (λ (s : Step) (l : List Step). s ∷ l) (step_again step) (steps_again schedule)
+steps_again (step ∷ schedule) = ap (λ (s : Step). s ∷ schedule) (step_again step) ∙ ap (λ (l : List Step). step_of (letter_of step) ∷ l) (steps_again schedule)
 
 -- the replay of a text, both kept in other places
 pub replays_same : (s : Status) (text other top : List ℕ) (options : Options) (given schedule : List Step) (trace notes : Port) → text ≡ other → given ≡ schedule →

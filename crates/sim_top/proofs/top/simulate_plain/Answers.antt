@@ -1,5 +1,4 @@
 use Rattle.word_rules.specs.Words.{texts}
-use Rattle.program_output.specs.Port.{port}
 use Rattle.sim_top.proofs.Points.{points_of_call}
 use Rattle.sim_top.proofs.top.simulate_plain.Goals as goal
 
