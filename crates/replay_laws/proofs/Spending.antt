@@ -19,7 +19,6 @@ use Rattle.core_steps.specs.Laws.{Balanced}
 use Rattle.replay_model.specs.Replays.{steps_to_end, replayed}
 use Rattle.system_model.specs.System.{system_of, try_budget}
 use Rattle.system_model.specs.Trace.{run_of}
-use Rattle.design_replay.specs.Report.{design_report}
 use Rattle.replay_laws.specs.Sums.{AreOwnOrReused, ReplaysEnd, ReplaysUseEach, DesignsUseEach}
 use Rattle.replay_laws.proofs.Going.{Goes, first_goes, steps_go, steps_balance, steps_near, engine_joins, engine_alone}
 
@@ -90,5 +89,4 @@ design_room objects options =
     omega arith
 
 pub designs_use_each : DesignsUseEach
-unfolding design_report
 designs_use_each objects options schedule = replays_use_each (system_of objects options) schedule (design_room objects options)

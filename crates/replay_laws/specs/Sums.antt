@@ -8,8 +8,8 @@ use Rattle.lockstep_model.specs.Works.{Work, attempts_in}
 use Rattle.step_schedule.specs.declared.Step.{Step}
 use Rattle.ahead_report.specs.declared.Report.{Report}
 use Rattle.replay_model.specs.Replays.{replayed, report_of}
+use Rattle.system_model.specs.System.{system_of}
 use Rattle.system_model.specs.Trace.{run_of}
-use Rattle.design_replay.specs.Report.{design_report}
 
 -- each attempt among the works is an own one or a reused one
 abbrev pub AreOwnOrReused : Report → List Work → Type 0
@@ -27,4 +27,4 @@ ReplaysUseEach =
 -- that of each design, with any options
 abbrev pub DesignsUseEach : Type 0
 DesignsUseEach =
-    (objects : Objects) (options : Options) (schedule : List Step) → AreOwnOrReused (design_report objects options schedule) (run_of objects options).works
+    (objects : Objects) (options : Options) (schedule : List Step) → AreOwnOrReused (report_of (system_of objects options) schedule) (run_of objects options).works
