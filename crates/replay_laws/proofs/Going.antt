@@ -73,7 +73,7 @@ nears_by None sys D s is g =
     let m : Move = moved s.led.walk s.led.reply in
     nears_moved s (stepped_on sys D s) m.says is refl (costs_of sys s g).falls (moved_keeps s.led.walk s.led.reply).awaits
 nears_by None sys W s is g = record { went = λ e. e; nearer = λ e. omega arith; goes = λ e h. h }
-nears_by (Some end) sys step s is g = record { went = λ e. e; nearer = λ e. cc; goes = λ e h. h }
+nears_by (Some told) sys step s is g = record { went = λ e. e; nearer = λ e. cc; goes = λ e h. h }
 
 -- ---- the steps of a schedule
 
