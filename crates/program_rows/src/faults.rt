@@ -74,11 +74,8 @@ fn each_byte_of_a_run_fails_in_turn(rt: HostRuntime) -> Result<(), AllocError> {
         };
         let cut = simulated(rt.alloc(), CHARGE_WORDS, CHARGE.as_bytes(), 1, &fails)?;
         assert_eq!(rt; cut.status, Status::WriteFault);
-        assert!(rt;
-            cut.trace.bytes() == &whole.trace.bytes()[..number],
-            "{}",
-            number
-        );
+        let before = &whole.trace.bytes()[..number];
+        assert!(rt; cut.trace.bytes() == before, "{}", number);
         assert!(rt; cut.notes.bytes().is_empty());
     }
     Ok(())
