@@ -95,7 +95,7 @@ steps_near sys (step ∷ steps) s g =
 
 -- how many steps are the engine's
 pub engine_joins : (a b : List Step) → engine_steps (a ++ b) ≡ engine_steps a + engine_steps b
-engine_joins [] b = refl
+engine_joins [] b = omega arith
 engine_joins (step ∷ a) b = let rest = engine_joins a b in omega arith
 
 pub engine_alone : (n : ℕ) → engine_steps (replicate n D) ≡ n
