@@ -1,5 +1,5 @@
 -- What each step of the core keeps, and how near to the end it comes.
-use Rattle.std.proofs.Common.{◌≡◌, ◌≢◌, ℕ, suc, zero, ◌+◌, ◌<◌, ◌≤◌, List, [], ◌∷◌, ◌++◌, replicate, Option, Some, None, refl, ap, ◌∙◌, arith}
+use Rattle.std.proofs.Common.{◌≡◌, ◌≢◌, ℕ, suc, zero, ◌+◌, List, [], ◌∷◌, ◌++◌, replicate, Option, Some, None, refl, ◌∙◌, arith}
 use Rattle.step_data.specs.declared.outcome.End.{End}
 use Rattle.step_model.specs.System.{System, attempt}
 use Rattle.lockstep_model.specs.declared.moves.Ask.TheVariants as asks

@@ -1,5 +1,5 @@
 -- The attempts of a run, behind a replay (own).
-use Rattle.std.specs.Prelude.{◌≡◌, ℕ, ◌+◌, ◌<◌, ◌^◌, List, Some}
+use Rattle.std.specs.Prelude.{◌≡◌, ◌+◌, ◌<◌, ◌^◌, List, Some}
 use Rattle.flat_design.specs.declared.objects.Objects.{Objects}
 use Rattle.step_data.specs.declared.outcome.Options.{Options}
 use Rattle.step_model.specs.System.{System}
