@@ -1,0 +1,5 @@
+//! Runs of generated ladders.
+#![tactic(auto)]
+
+#[cfg(test)]
+mod tests;
