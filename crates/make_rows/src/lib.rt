@@ -1,5 +1,0 @@
-//! Runs of generated ladders.
-#![tactic(auto)]
-
-#[cfg(test)]
-mod tests;

@@ -1,0 +1,3 @@
+pub mod Crossing
+pub mod Moving
+pub mod Reports
