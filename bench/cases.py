@@ -9,7 +9,7 @@ import re
 import subprocess
 import sys
 
-TABLES = ["refusals", "elaborated", "traces", "words", "replay"]
+TABLES = ["refusals", "elaborated", "traces", "words", "replay", "threads"]
 MODES = ["lockstep", "make", "replay", "run"]
 Case = collections.namedtuple("Case", "table number about text words judge")
 Ran = collections.namedtuple("Ran", "status trace notes")
@@ -54,6 +54,22 @@ def exactly(status, trace, notes):
     return judge
 
 
+def fits(status, trace):
+    """Returns a judge of a run on threads: the status, the whole trace, and a note whose numbers go together."""
+
+    def judge(ran):
+        found = exactly(status, trace, ran.notes)(ran)
+        note = re.fullmatch(rb"ahead begins (\d+) taken (\d+) saved (\d+) stale (\d+) reused (\d+) own (\d+)\n", ran.notes)
+        if not note:
+            return found + [f"notes {shown(ran.notes)}, wanted a report"]
+        _, taken, saved, stale, reused, _ = map(int, note.groups())
+        if reused > saved or saved + stale > taken:
+            found.append(f"notes {shown(ran.notes)}, numbers that can't be")
+        return found
+
+    return judge
+
+
 def begins(head):
     """Returns a judge of an accepted design: the trace begins with the head, and there is no note."""
 
@@ -86,9 +102,16 @@ def case_of(table, number, row):
     elif table == "words":
         words, answer = row["words"], row["answer"]
         judge = accepted if answer == "ok" else exactly(2, b"", f"usage {answer}\n".encode())
+    elif table == "threads":
+        words, judge = in_mode_run(row["words"]), fits(row["status"], row["trace"].encode("latin-1"))
     else:
         judge = exactly(row["status"], row["trace"].encode("latin-1"), row["notes"].encode("latin-1"))
     return Case(table, number, about, text, words, judge)
+
+
+def in_mode_run(words):
+    """Returns the words with mode run in place of lockstep."""
+    return ["run" if word == "lockstep" and before == "--mode" else word for before, word in zip(["", *words], words)]
 
 
 def modes_of(words):
@@ -100,9 +123,12 @@ def modes_of(words):
 def cases_of(folder, tables):
     """Yields the cases of the tables, in order."""
     for table in tables:
-        with open(os.path.join(folder, f"{table}.jsonl"), encoding="utf-8") as rows:
+        name = "traces" if table == "threads" else table
+        with open(os.path.join(folder, f"{name}.jsonl"), encoding="utf-8") as rows:
             for number, line in enumerate(rows, 1):
-                yield case_of(table, number, json.loads(line))
+                row = json.loads(line)
+                if table != "threads" or "lockstep" in row["words"] and row["status"] in (0, 3):
+                    yield case_of(table, number, row)
 
 
 def report(case, found):

@@ -17,9 +17,10 @@ number_same : (f g : Values) (default : ℕ) (name : Text) → f name ≡ g name
 number_same f g default name h = ap (λ o. unwrap_or (option_and_then number_of o) default) h
 
 mode_same : (f g : Values) → f (codes "mode") ≡ g (codes "mode") → mode_from f ≡ mode_from g
-mode_same f g h = ap (λ o. unwrap_or (option_and_then mode_named o) mode.Lockstep) h
+mode_same f g h = ap (λ o. unwrap_or (option_and_then mode_named o) mode.Run) h
 
 top_at : (m : Mode) (f g : Values) → f (codes "top") ≡ g (codes "top") → top_from m f ≡ top_from m g
+top_at mode.Run f g h = ap (λ o. map to_ascii_lowercase (unwrap_or o [])) h
 top_at mode.Lockstep f g h = ap (λ o. map to_ascii_lowercase (unwrap_or o [])) h
 top_at mode.Replay f g h = ap (λ o. map to_ascii_lowercase (unwrap_or o [])) h
 top_at mode.Make f g h = refl
@@ -28,6 +29,7 @@ top_same : (f g : Values) → f (codes "mode") ≡ g (codes "mode") → f (codes
 top_same f g m h = ap (λ n. top_from n f) (mode_same f g m) ∙ top_at (mode_from g) f g h
 
 top_is : (m : Mode) (words : List Text) → top_from m (λ name. value_of name words) ≡ top_of m words
+top_is mode.Run words = refl
 top_is mode.Lockstep words = refl
 top_is mode.Replay words = refl
 top_is mode.Make words = refl

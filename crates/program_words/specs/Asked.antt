@@ -38,9 +38,10 @@ abbrev pub number_from : Values → ℕ → Text → ℕ
 number_from values default name = unwrap_or (option_and_then number_of (values name)) default
 
 abbrev pub mode_from : Values → Mode
-mode_from values = unwrap_or (option_and_then mode_named (values (codes "mode"))) mode.Lockstep
+mode_from values = unwrap_or (option_and_then mode_named (values (codes "mode"))) mode.Run
 
 abbrev pub top_from : Mode → Values → Text
+top_from mode.Run values = map to_ascii_lowercase (unwrap_or (values (codes "top")) [])
 top_from mode.Lockstep values = map to_ascii_lowercase (unwrap_or (values (codes "top")) [])
 top_from mode.Replay values = map to_ascii_lowercase (unwrap_or (values (codes "top")) [])
 top_from mode.Make values = codes "ladder"

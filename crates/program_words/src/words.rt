@@ -29,8 +29,8 @@ fn mode_of(matches: &ArgMatches) -> Mode
     ensures { result ≡ mode_from (first_value (found_of matches.now)) }
 {
     match matches.get_str("mode") {
-        Some(value) => mode_named(value).unwrap_or(Mode::Lockstep),
-        None => Mode::Lockstep,
+        Some(value) => mode_named(value).unwrap_or(Mode::Run),
+        None => Mode::Run,
     }
 }
 
@@ -38,7 +38,7 @@ fn top_of(alloc: Global, mode: Mode, matches: &ArgMatches) -> Result<String, All
     ensures { IfOk result (λ top. string_bytes top ≡ top_from mode (first_value (found_of matches.now))) }
 {
     match mode {
-        Mode::Lockstep | Mode::Replay => matches
+        Mode::Run | Mode::Lockstep | Mode::Replay => matches
             .get_str("top")
             .unwrap_or("")
             .to_ascii_lowercase(alloc),

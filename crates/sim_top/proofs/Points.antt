@@ -20,6 +20,7 @@ use Rattle.program_output.specs.Output.{Output, HandsOn, noted}
 use Rattle.program_output.specs.declared.status.Status.{Status}
 use Rattle.text_modes.specs.TextRun.{RunsText}
 use Rattle.text_modes.specs.TextReplay.{ReplaysText}
+use Rattle.text_threads.specs.TextThreads.{RunsTextOnThreads}
 use Rattle.sim_top.specs.Outcome.{options_of, Reads, Performs, EndsBy, Ends}
 use Rattle.sim_top.specs.Points.{IsMet, PointsIn, PointsBy, PointsAreMet}
 
@@ -85,6 +86,11 @@ module _ (meet : (objects : Objects) (top : List ℕ) (options : Options) → Te
   by_replay schedule text read (inl (Err note, gives, hands)) = inl (stays_beside _ s note trace notes hands)
   by_replay schedule text read (inr lacks) = inl lacks.1
 
+  by_threads : (text : Text) → ReadsAll source text → RunsTextOnThreads s text request.top (options_of request) trace notes → Stays trace ⊎ IsMet request source trace
+  by_threads text read (inl (Ok objects, gives, hands)) = inr (is_met text objects read gives (front_of _ s trace notes hands.2))
+  by_threads text read (inl (Err note, gives, hands)) = inl (stays_beside _ s note trace notes hands)
+  by_threads text read (inr lacks) = inl lacks.1
+
   by_source : (Handed : Text → Type 0) → ((text : Text) → ReadsAll source text → Handed text → Stays trace ⊎ IsMet request source trace) → Reads Handed s source trace notes →
       Stays trace ⊎ IsMet request source trace
   by_source Handed by (inl h) = inl h.2
@@ -93,11 +99,13 @@ module _ (meet : (objects : Objects) (top : List ℕ) (options : Options) → Te
   by_source Handed by (inr (inr (inr h))) = inl h.1
 
   by_mode : (m : Mode) → Performs m s request source trace notes → PointsIn m request source trace
+  by_mode mode.Run h = by_source _ by_threads h
   by_mode mode.Lockstep h = by_source _ by_run h
   by_mode mode.Replay h = by_source _ (by_replay _) h
   by_mode mode.Make h = tt
 
   without_memory : (m : Mode) → Stays trace → PointsIn m request source trace
+  without_memory mode.Run stays = inl stays
   without_memory mode.Lockstep stays = inl stays
   without_memory mode.Replay stays = inl stays
   without_memory mode.Make stays = tt

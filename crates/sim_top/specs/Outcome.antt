@@ -13,6 +13,7 @@ use Rattle.program_output.specs.declared.status.Status.TheVariants as status
 use Rattle.text_modes.specs.Start.{most_bytes}
 use Rattle.text_modes.specs.TextRun.{RunsText}
 use Rattle.text_modes.specs.TextReplay.{ReplaysText}
+use Rattle.text_threads.specs.TextThreads.{RunsTextOnThreads}
 use Rattle.ladder.specs.Ladder.{ladder_text}
 use Rattle.text_modes.specs.Making.{MakesText}
 
@@ -70,6 +71,10 @@ Reads Handed s source trace notes =
 abbrev pub Simulates : Status → Request → Port → Port → Port → Type 0
 Simulates s request source trace notes = Reads (λ text. RunsText s text request.top (options_of request) trace notes) s source trace notes
 
+-- In mode run that is its run on threads.
+abbrev pub RunsAhead : Status → Request → Port → Port → Port → Type 0
+RunsAhead s request source trace notes = Reads (λ text. RunsTextOnThreads s text request.top (options_of request) trace notes) s source trace notes
+
 -- the step of a letter: `w` is the worker's, the other one the engine's
 abbrev pub step_of : ℕ → Step
 step_of letter = if letter == 119 then steps.W else steps.D
@@ -84,6 +89,7 @@ abbrev pub Makes : Status → Request → Port → Port → Port → Type 0
 Makes s request source trace notes = Stays source × MakesText s (ladder_text request.size) request.size (options_of request) trace notes
 
 abbrev pub Performs : Mode → Status → Request → Port → Port → Port → Type 0
+Performs mode.Run s request source trace notes = RunsAhead s request source trace notes
 Performs mode.Lockstep s request source trace notes = Simulates s request source trace notes
 Performs mode.Replay s request source trace notes = Replays s request source trace notes
 Performs mode.Make s request source trace notes = Makes s request source trace notes

@@ -23,6 +23,7 @@ pub record IsMet (request : Request) (source trace : Port) : Type 0 where
 
 -- mode make writes no points
 abbrev pub PointsIn : Mode → Request → Port → Port → Type 0
+PointsIn mode.Run request source trace = Stays trace ⊎ IsMet request source trace
 PointsIn mode.Lockstep request source trace = Stays trace ⊎ IsMet request source trace
 PointsIn mode.Replay request source trace = Stays trace ⊎ IsMet request source trace
 PointsIn mode.Make request source trace = Unit {0}

@@ -55,11 +55,13 @@ schedule_bare (c ∷ text) h =
     let all = (and_parts (nat_le 1 (length (c ∷ text)) && nat_le (length (c ∷ text)) 4096) (list_all is_step (c ∷ text)) h).1 in
     bare_head c text (step_bare c (and_parts (is_step c) (list_all is_step text) all).0)
 
-mode_split : (a b c : Bool) (m n o : Mode) (P : Type 0) → (a ≡ true → P) → (b ≡ true → P) → (c ≡ true → P) → is_some (cond a (Some m) (cond b (Some n) (cond c (Some o) None))) ≡ true → P
-mode_split true b c m n o P f g k h = f refl
-mode_split false true c m n o P f g k h = g refl
-mode_split false false true m n o P f g k h = k refl
-mode_split false false false m n o P f g k h = absurd (cc)
+mode_split : (a b c d : Bool) (m n o p : Mode) (P : Type 0) → (a ≡ true → P) → (b ≡ true → P) → (c ≡ true → P) → (d ≡ true → P)
+    → is_some (cond a (Some m) (cond b (Some n) (cond c (Some o) (cond d (Some p) None)))) ≡ true → P
+mode_split true b c d m n o p P f g k l h = f refl
+mode_split false true c d m n o p P f g k l h = g refl
+mode_split false false true d m n o p P f g k l h = k refl
+mode_split false false false true m n o p P f g k l h = l refl
+mode_split false false false false m n o p P f g k l h = absurd (cc)
 
 bare_at : (text word : Text) → IsBare word → bytes_eq text word ≡ true → IsBare text
 bare_at text word bare h = subst IsBare (sym (bytes_same text word h)) bare
@@ -67,8 +69,8 @@ bare_at text word bare h = subst IsBare (sym (bytes_same text word h)) bare
 mode_bare : (text : Text) → is_some (mode_named text) ≡ true → IsBare text
 unfolding mode_named
 mode_bare text h =
-    mode_split (bytes_eq text (codes "lockstep")) (bytes_eq text (codes "replay")) (bytes_eq text (codes "make")) _ _ _ (IsBare text)
-    (bare_at text (codes "lockstep") refl) (bare_at text (codes "replay") refl) (bare_at text (codes "make") refl) h
+    mode_split (bytes_eq text (codes "run")) (bytes_eq text (codes "lockstep")) (bytes_eq text (codes "replay")) (bytes_eq text (codes "make")) _ _ _ _ (IsBare text)
+    (bare_at text (codes "run") refl) (bare_at text (codes "lockstep") refl) (bare_at text (codes "replay") refl) (bare_at text (codes "make") refl) h
 
 choose : (b x y : Bool) (P : Type 0) → (x ≡ true → P) → (y ≡ true → P) → cond b x y ≡ true → P
 choose true x y P f g h = f h

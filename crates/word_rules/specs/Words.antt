@@ -1,6 +1,6 @@
 -- The words of the command line: options in any order, each at most once, as two words `--name value` or as one word
 -- `--name=value`.
-use Rattle.std.specs.Prelude.{◌≡◌, ℕ, ◌≤◌, ◌+◌, ◌==◌, ◌&&◌, ◌||◌, Bool, true, false, not, List, [], ◌∷◌, ◌++◌, Option, Some, None, if◌then◌else◌, length, map, nat_le, codes, bytes_eq, is_some, unwrap_or, option_and_then, String, string_bytes}
+use Rattle.std.specs.Prelude.{◌≡◌, ℕ, ◌≤◌, ◌+◌, ◌==◌, ◌&&◌, ◌||◌, Bool, true, false, not, List, [], ◌∷◌, ◌++◌, Option, Some, None, if◌then◌else◌, length, map, nat_le, codes, bytes_eq, is_none, is_some, unwrap_or, option_and_then, String, string_bytes}
 use Rattle.std.specs.List.{list_all, list_any}
 use Rattle.std.specs.Option.{option_map_or}
 use Rattle.std.specs.declared.alloc.Global.{Global}
@@ -80,10 +80,11 @@ is_step c = c == 119 || c == 100
 abbrev pub is_schedule : Text → Bool
 is_schedule text = nat_le 1 (length text) && nat_le (length text) 4096 && list_all is_step text
 
--- the modes there are: those that aren't there yet are added here
+-- the modes there are
 unfoldable pub mode_named : Text → Option Mode
 mode_named value =
-    if bytes_eq value (codes "lockstep") then Some mode.Lockstep
+    if bytes_eq value (codes "run") then Some mode.Run
+    else if bytes_eq value (codes "lockstep") then Some mode.Lockstep
     else if bytes_eq value (codes "replay") then Some mode.Replay
     else if bytes_eq value (codes "make") then Some mode.Make
     else None
@@ -126,7 +127,7 @@ refused_behind before waiting (word ∷ words) = option_map_or (λ next. refused
 -- ---- what the words ask for
 
 abbrev pub mode_of : List Text → Mode
-mode_of words = unwrap_or (option_and_then mode_named (value_of (codes "mode") words)) mode.Lockstep
+mode_of words = unwrap_or (option_and_then mode_named (value_of (codes "mode") words)) mode.Run
 
 -- the number that an option is given, or its default
 abbrev pub number_or : ℕ → Text → List Text → ℕ
@@ -134,6 +135,8 @@ number_or default name words = unwrap_or (option_and_then number_of (value_of na
 
 -- each option that is given is for the mode, and what the mode requires is given
 abbrev pub suits : Mode → List Text → Bool
+suits mode.Run words =
+    is_given (codes "top") words && not (is_given (codes "size") words) && not (is_given (codes "schedule") words)
 suits mode.Lockstep words =
     is_given (codes "top") words && not (is_given (codes "size") words) && not (is_given (codes "schedule") words)
 suits mode.Replay words = is_given (codes "top") words && not (is_given (codes "size") words)
@@ -171,6 +174,7 @@ pub record Request : Type 0 where
 
 -- the name of the top is kept in lower case, as identifiers are; that of the generated design is `ladder`
 abbrev pub top_of : Mode → List Text → Text
+top_of mode.Run words = map to_ascii_lowercase (unwrap_or (value_of (codes "top") words) [])
 top_of mode.Lockstep words = map to_ascii_lowercase (unwrap_or (value_of (codes "top") words) [])
 top_of mode.Replay words = map to_ascii_lowercase (unwrap_or (value_of (codes "top") words) [])
 top_of mode.Make words = codes "ladder"
@@ -194,6 +198,17 @@ request_of words = record {
   xres = number_or 1 (codes "xres") words;
   schedule = schedule_of words;
 }
+
+-- the kernels run on threads
+unfoldable pub is_run : Mode → Bool
+is_run mode.Run = true
+is_run mode.Lockstep = false
+is_run mode.Replay = false
+is_run mode.Make = false
+
+-- the words are accepted and ask for them
+unfoldable pub wants_threads : List Text → Bool
+wants_threads words = is_none (refusal words) && is_run (mode_of words)
 
 pub record IsInRange (request : Request) : Type 0 where
   pub size_most : request.size ≤ 15

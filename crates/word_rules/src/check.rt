@@ -1,9 +1,9 @@
 ghost use Rattle.std.specs.Prelude.{◌≡◌, ◌≤◌, ◌&&◌, None, Some, not, is_some, option_map, option_copied, MatchResult, IfErr, OnOk};
 ghost use Rattle.std.specs.List.{list_any};
 ghost use Rattle.word_rules.specs.declared.mode.Mode.{Mode};
-ghost use Rattle.word_rules.specs.Words.{texts, names, is_option, is_whole, suits, mode_of, number_or, after_name, after_word, refusal, request_of, IsInRange};
+ghost use Rattle.word_rules.specs.Words.{texts, names, is_option, is_whole, suits, mode_of, number_or, after_name, after_word, refusal, request_of, wants_threads, IsInRange};
 
-use crate::mode::{Mode, mode_named};
+use crate::mode::{Mode, is_run, mode_named};
 use crate::parts::{is_named, is_option, split_word, value_of};
 use crate::values::{is_allowed, number_of};
 
@@ -21,8 +21,8 @@ fn mode_of(words: &[String]) -> Mode
     ensures { result ≡ mode_of (texts words.now) }
 {
     match value_of("mode", words) {
-        Some(value) => mode_named(value).unwrap_or(Mode::Lockstep),
-        None => Mode::Lockstep,
+        Some(value) => mode_named(value).unwrap_or(Mode::Run),
+        None => Mode::Run,
     }
 }
 
@@ -34,7 +34,7 @@ fn suits(mode: Mode, words: &[String]) -> bool
     let size = value_of("size", words).is_some();
     let schedule = value_of("schedule", words).is_some();
     match mode {
-        Mode::Lockstep => top && !size && !schedule,
+        Mode::Run | Mode::Lockstep => top && !size && !schedule,
         Mode::Replay => top && !size,
         Mode::Make => size && !top && !schedule,
     }
@@ -113,4 +113,12 @@ pub fn check_words(words: &[String]) -> Result<(), u32>
         return Err(at as u32);
     }
     if is_whole(words) { Ok(()) } else { Err(0) }
+}
+
+/// Whether the words are accepted and ask for the kernels on threads.
+#[tactic(auto, unfolding(crate::specs::Words::wants_threads))]
+pub fn wants_threads(words: &[String]) -> bool
+    ensures { result ≡ wants_threads (texts words.now) }
+{
+    check_words(words).is_ok() && is_run(mode_of(words))
 }

@@ -6,7 +6,7 @@ mod mode;
 mod parts;
 mod values;
 
-pub use check::check_words;
+pub use check::{check_words, wants_threads};
 pub use mode::{Mode, mode_named};
 pub use parts::NAMES;
 pub use values::number_of;
