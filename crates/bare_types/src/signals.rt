@@ -1,7 +1,5 @@
 //! The signals that expressions read.
 ghost use Rattle.std.specs.Prelude.{◌≡◌, ◌++◌, IfOk, OnOk};
-ghost use Rattle.std.specs.List.{list_any};
-ghost use Rattle.flat_expr.specs.Expr.{same_signal};
 ghost use Rattle.unit_meaning.specs.Bare as spec;
 
 use flat_expr::{FlatExpr, SignalName};
@@ -40,29 +38,9 @@ pub fn signals_in_some(
     Ok(all)
 }
 
-fn is_among(signal: SignalName, all: &[SignalName]) -> bool
-    ensures { result ≡ list_any (same_signal signal) all.now }
-{
-    all.iter().any(|other| signal == *other)
-}
-
-fn add_once(signal: SignalName, all: &mut Items<SignalName>) -> Result<(), AllocError>
-    ensures { OnOk result (all.new ≡ spec.with_signal all.old signal) }
-{
-    if is_among(signal, all.as_slice()) {
-        Ok(())
-    } else {
-        all.push(signal)
-    }
-}
-
 /// Each of them once.
 pub fn once(alloc: Global, signals: &[SignalName]) -> Result<Items<SignalName>, AllocError>
     ensures { IfOk result (λ all. all ≡ spec.once signals.now) }
 {
-    let mut all = Items::new(alloc);
-    for signal in signals {
-        add_once(*signal, &mut all)?;
-    }
-    Ok(all)
+    signal_list::once(alloc, signals)
 }

@@ -1,5 +1,5 @@
 -- One more number behind a list.
-use Rattle.std.proofs.Common.{◌≡◌, ℕ, zero, suc, ◌+◌, ◌<◌, nat_eq, nat_lt, Bool, true, false, not, ◌||◌, cond, if◌then◌else◌, List, [], ◌∷◌, ◌++◌, length, get_or, slice_get, position, Option, Some, None, IsSome, true≢false, ◌≤◌, refl, sym, ap, ◌∙◌, subst, arith, length-append}
+use Rattle.std.proofs.Common.{◌≡◌, ℕ, zero, suc, ◌+◌, ◌<◌, nat_eq, nat_lt, Bool, true, false, not, ◌||◌, cond, if◌then◌else◌, List, [], ◌∷◌, ◌++◌, length, get_or, slice_get, position, Option, Some, None, IsSome, is_some, true≢false, ◌≤◌, refl, sym, ap, ◌∙◌, subst, arith, length-append}
 use Rattle.std.specs.List.{list_any, position_or_len, prefix_len}
 use Rattle.std.specs.Option.{option_map}
 use Rattle.std.proofs.lemmas.Bool.Decides.{nat_tests}
@@ -39,6 +39,16 @@ position_none p (x ∷ xs) e = go (p x) refl (sym (position-cons p x xs) ∙ e) 
     go : (b : Bool) → p x ≡ b → cond b (Some 0) (option_map (λ k. suc k) (position p xs)) ≡ None → (position p xs ≡ None → list_any p xs ≡ false) → (p x || list_any p xs) ≡ false
     go true h f more = cc
     go false h f more = ap (λ b. b || list_any p xs) h ∙ more (none (position p xs) f)
+
+some_mapped : (b : Bool) (o : Option ℕ) → (b || is_some o) ≡ is_some (cond b (Some 0) (option_map (λ n. suc n) o))
+some_mapped true o = refl
+some_mapped false (Some n) = refl
+some_mapped false None = refl
+
+-- a number stands in a list where it has a place there
+pub stands : (p : ℕ → Bool) (xs : List ℕ) → list_any p xs ≡ is_some (position p xs)
+stands p [] = refl
+stands p (x ∷ xs) = ap (λ b. p x || b) (stands p xs) ∙ (some_mapped (p x) (position p xs) ∙ sym (ap is_some (position-cons p x xs)))
 
 abbrev either : Option ℕ → Option ℕ → Option ℕ
 either (Some i) o = Some i

@@ -1,5 +1,6 @@
 //! A list of numbers with an index.
-ghost use Rattle.std.specs.Prelude.{◌≡◌, [], ◌∷◌, ◌++◌, length, position, nat_eq, None, IsSome, IfOk};
+ghost use Rattle.std.specs.Prelude.{◌≡◌, [], ◌∷◌, ◌++◌, length, position, nat_eq, None, IsSome, IfOk, OnOk};
+ghost use Rattle.std.specs.List.{list_any};
 ghost use Rattle.number_list.specs.Firsts.{AreFirsts};
 
 use indexmap::IndexSet;
@@ -54,51 +55,66 @@ impl NumberList {
         }
     }
 
-    fn with_old(self, number: u32) -> Result<NumberList, AllocError>
-        requires { IsSome (position (nat_eq number) self) }
-        ensures { IfOk result (λ list. list ≡ self ++ number ∷ []) }
+    #[tactic(auto, using(crate::proofs::Behind::stands))]
+    pub fn contains(&self, number: u32) -> bool
+        ensures { result ≡ list_any (nat_eq number) self.now }
     {
-        let NumberList {
-            mut all,
-            different,
-            firsts,
-        } = self;
-        all.push(number)?;
-        Ok(NumberList {
-            all,
-            different,
-            firsts,
-        })
+        self.find(number).is_some()
     }
 
-    fn with_new(self, number: u32) -> Result<NumberList, AllocError>
-        requires { position (nat_eq number) self ≡ None }
-        ensures { IfOk result (λ list. list ≡ self ++ number ∷ []) }
+    #[tactic(auto, using(crate::proofs::Behind::old_number))]
+    fn push_old(&mut self, number: u32) -> Result<(), AllocError>
+        requires { IsSome (position (nat_eq number) self.old) }
+        ensures { OnOk result (self.new ≡ self.old ++ number ∷ []) }
     {
-        let NumberList {
-            mut all,
-            mut different,
-            mut firsts,
-        } = self;
-        firsts.push(all.len())?;
-        all.push(number)?;
-        let Ok(_) = different.insert(number) else {
+        self.all.push(number)
+    }
+
+    fn push_new(&mut self, number: u32) -> Result<(), AllocError>
+        requires { position (nat_eq number) self.old ≡ None }
+        ensures { OnOk result (self.new ≡ self.old ++ number ∷ []) }
+    {
+        let place = self.all.len();
+        self.firsts.push(place)?;
+        let Ok(()) = self.all.push(number) else {
+            self.firsts.pop();
             return Err(AllocError);
         };
-        Ok(NumberList {
-            all,
-            different,
-            firsts,
-        })
+        let Ok(_) = self.different.insert(number) else {
+            self.all.pop();
+            self.firsts.pop();
+            return Err(AllocError);
+        };
+        Ok(())
+    }
+
+    /// Puts a number behind the others.
+    pub fn push(&mut self, number: u32) -> Result<(), AllocError>
+        ensures { OnOk result (self.new ≡ self.old ++ number ∷ []) }
+    {
+        match self.find(number) {
+            Some(_) => self.push_old(number),
+            None => self.push_new(number),
+        }
     }
 
     /// The list with a number behind the others.
     pub fn with(self, number: u32) -> Result<NumberList, AllocError>
         ensures { IfOk result (λ list. list ≡ self ++ number ∷ []) }
     {
-        match self.find(number) {
-            Some(_) => self.with_old(number),
-            None => self.with_new(number),
-        }
+        let mut list = self;
+        list.push(number)?;
+        Ok(list)
+    }
+
+    pub fn into_items(self) -> Items<u32>
+        ensures { result ≡ self }
+    {
+        let NumberList {
+            all,
+            different: _,
+            firsts: _,
+        } = self;
+        all
     }
 }

@@ -1,7 +1,0 @@
-use Rattle.std.proofs.Common.{◌≡◌, [], drop}
-use Rattle.std.specs.List.{fold}
-use Rattle.unit_meaning.specs.Bare.{with_signal}
-use Rattle.bare_types.proofs.signals.once.Given as goal
-
-abbrev pub invariant-loop-signal : goal.invariant-loop-signal
-invariant-loop-signal l = fold with_signal l.all (drop l.signal-index l.signals) ≡ fold with_signal [] l.signals
