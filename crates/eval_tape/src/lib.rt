@@ -4,6 +4,7 @@
 mod numbers;
 mod passes;
 mod run;
+mod short;
 mod slopes;
 mod tape;
 

@@ -43,7 +43,7 @@ fn real_number(value: Val) -> Outcome
 
 /// A number that there is.
 #[tactic(auto, using(crate::proofs::Ranged::numbers))]
-fn known_number(number: Fix) -> Outcome
+pub fn known_number(number: Fix) -> Outcome
     ensures { result ≡ numeric (ranged number) }
 {
     Ok(number)
@@ -63,7 +63,7 @@ fn function_number(function: RealFunction, x: Fix) -> Outcome
     }
 }
 
-fn operator_number(operator: RealOperator, x: Fix, y: Fix) -> Outcome
+pub fn operator_number(operator: RealOperator, x: Fix, y: Fix) -> Outcome
     ensures { result ≡ operator_number_of operator x y }
 {
     match operator {

@@ -1,12 +1,13 @@
 //! Tapes, and the room of their runs.
-ghost use Rattle.std.specs.Prelude.{◌≡◌, ◌≤◌, length, pos, replicate, OnErr, IfOk, Ok};
+ghost use Rattle.std.specs.Prelude.{◌≡◌, ◌≤◌, length, pos, replicate, OnErr, IfOk, IfSome, Ok};
 ghost use Rattle.fix_core.specs.Passes.{and_then};
 ghost use Rattle.design_meaning.specs.Value.{number_of, value_of, slopes_of};
 ghost use Rattle.expr_eval.specs.Condition.{CanEvaluate};
 ghost use Rattle.tape_code.specs.Code.{code_of};
-ghost use Rattle.eval_tape.specs.Tape.{constants_of, tape_of};
+ghost use Rattle.eval_tape.specs.Tape.{constants_of, tape_of, IsValue};
 
 use crate::run::{run_slopes, run_value};
+use crate::short::short_value;
 use constant_slopes::constant_slope;
 use design_meaning::EvalFault;
 use expr_eval::{Values, units, value};
@@ -97,6 +98,14 @@ impl Tape {
         ensures { result ≡ length self.now.code }
     {
         self.code.len()
+    }
+
+    /// The value of the expression that was compiled, where it has no fault and its tape is one instruction or a number times
+    /// an unknown. It takes no room.
+    pub fn short_value<V: Values>(&self, values: &V) -> Option<Fix>
+        ensures { IfSome result (λ v. IsValue (V.readings values.now) self.now.code v) }
+    {
+        short_value(self.code.as_slice(), values)
     }
 
     /// The value of the expression that was compiled, or its first fault. The instructions give it where there is no fault,

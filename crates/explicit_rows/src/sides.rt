@@ -38,6 +38,9 @@ fn side(expr: &FlatExpr, tape: &Tape, values: &EquationValues<'_>) -> Result<Fix
     requires tape { tape.now.code ≡ code_of expr.now }
     ensures { result ≡ number_of (value_of expr.now (readings_in values.now)) }
 {
+    if let Some(number) = tape.short_value(values) {
+        return Ok(number);
+    }
     if tape.len() > MOST_INSTRUCTIONS {
         return tree_side(expr, values);
     }

@@ -8,7 +8,7 @@ use Rattle.lin_solve.specs.Elimination.{coefficients, right_side}
 use Rattle.kept_elimination.specs.Kept.{matrix_of, right_sides}
 
 -- the coefficients of a row, as the code takes them
-row_front : (m r : List ℤ) (n : ℕ) → length m ≡ n → length r ≡ n + 1 → take (length m) r ≡ coefficients r
+pub row_front : (m r : List ℤ) (n : ℕ) → length m ≡ n → length r ≡ n + 1 → take (length m) r ≡ coefficients r
 row_front m r n hm hr = let same : length m ≡ length r - 1 = omega (arith, hm, hr) in ap (λ (k : ℕ). take k r) same
 
 at_row : (rows : List (List ℤ)) (i : ℕ) (m r : List ℤ) (d : List ℤ) (n : ℕ) → i < length rows → length m ≡ n → length r ≡ n + 1 → r ≡ get_or rows i r → get_or (matrix_of rows) i d ≡ take (length m) r
@@ -34,7 +34,7 @@ matrix_copied matrix rows i m r new n h k hm hr er is so_far =
 
 -- ---- right sides
 
-right_side_of : (r : List ℤ) (n : ℕ) → length r ≡ n + 1 → get_or r n (pos 0) ≡ right_side r
+pub right_side_of : (r : List ℤ) (n : ℕ) → length r ≡ n + 1 → get_or r n (pos 0) ≡ right_side r
 unfolding right_side
 right_side_of r n h = let same : n ≡ length r - 1 = omega (arith, h) in ap (λ (k : ℕ). get_or r k (pos 0)) same
 
@@ -55,3 +55,6 @@ within_more bs i b h r all = rw (take_more_set bs i b h) (All-append IsInRange (
 
 pub within_whole : (bs : List ℤ) (i : ℕ) → length bs ≤ i → All IsInRange (take i bs) → All IsInRange bs
 within_whole bs i h all = subst (All IsInRange) (take_all i bs h) all
+
+pub within_next : (bs : List ℤ) (i : ℕ) (b : ℤ) → i < length bs → IsInRange (get_or bs i b) → All IsInRange (take i bs) → All IsInRange (take (i + 1) bs)
+within_next bs i b h r all = rw (take_more bs i b h) (All-append IsInRange (take i bs) (get_or bs i b ∷ []) all (All-cons IsInRange (get_or bs i b) [] r (All-nil IsInRange)))

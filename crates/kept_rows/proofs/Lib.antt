@@ -4,3 +4,6 @@ pub mod Columns
 pub mod Passing
 pub mod Fronts
 pub mod Rooms
+pub mod Choosing
+pub mod Quotients
+pub mod Joining

@@ -2,3 +2,4 @@ pub mod Held
 pub mod Told
 pub mod Whole
 pub mod Sound
+pub mod Joined

@@ -1,6 +1,7 @@
 //! A column that is eliminated.
-ghost use Rattle.std.specs.Prelude.{◌≡◌, ◌+◌, ◌<◌, ◌^◌, length, drop, IfOk, OnOk};
+ghost use Rattle.std.specs.Prelude.{◌≡◌, ◌+◌, ◌<◌, ◌^◌, length, unsigned_abs, drop, IfOk, OnOk};
 ghost use Rattle.std.specs.List.{All};
+ghost use Rattle.fix_core.specs.Fixed.{quotient_of};
 ghost use Rattle.fix_core.specs.Passes.{answer, each};
 ghost use Rattle.lin_solve.specs.Elimination.{coefficient};
 ghost use Rattle.kept_elimination.specs.Kept.{reduction, columns_of};
@@ -29,6 +30,17 @@ pub struct Column {
     pub quotient: Ratio,
 }
 
+/// The quotient by a number other than 0. Of 0 it is 0.
+fn quotient(number: Fix, divisor: Fix) -> Result<Fix, NumFault>
+    requires { 0 < unsigned_abs divisor }
+    ensures { result ≡ quotient_of number divisor }
+{
+    if number.magnitude() == 0 {
+        return Ok(number);
+    }
+    number.div(divisor)
+}
+
 /// Takes the pivot row off, as often as clears the column, and tells how often.
 fn reduce(
     row: &mut SparseRow,
@@ -39,11 +51,12 @@ fn reduce(
     requires column { column < length row.old }
     requires pivot { length pivot.now ≡ length row.old }
     requires spare { length spare.old ≡ length row.old }
+    requires divisor { 0 < unsigned_abs (coefficient column pivot.now) }
     ensures answer { reduction column pivot.now row.old ≡ reduction_told result row.new }
     ensures width { length row.new ≡ length row.old }
     ensures spare { length spare.new ≡ length row.old }
 {
-    let factor = row.get(column).div(pivot.get(column))?;
+    let factor = quotient(row.get(column), pivot.get(column))?;
     row.lose(factor, pivot, spare)?;
     Ok(factor)
 }
@@ -60,6 +73,7 @@ fn reduce_all(
     requires rows { All (λ row. length row ≡ length pivot.now) rows.old }
     requires factors { length factors.old ≡ length rows.old }
     requires spare { length spare.old ≡ length pivot.now }
+    requires divisor { 0 < unsigned_abs (coefficient column pivot.now) }
     ensures answer { each (reduction column pivot.now) rows.old ≡ answer result (reductions factors.new rows.new) }
     ensures rows { All (λ row. length row ≡ length pivot.now) rows.new }
     ensures factors { length factors.new ≡ length rows.old }

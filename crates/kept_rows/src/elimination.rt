@@ -1,15 +1,17 @@
 //! An elimination that is kept, and made anew.
-ghost use Rattle.std.specs.Prelude.{◌≡◌, ◌+◌, ◌<◌, ◌^◌, length, true, false, IfOk, OnOk};
+ghost use Rattle.std.specs.Prelude.{◌≡◌, ◌+◌, ◌<◌, ◌^◌, length, true, false, IfOk, OnOk, IsTrue};
 ghost use Rattle.std.specs.List.{All};
 ghost use Rattle.fix_core.specs.Fixed.{IsInRange};
 ghost use Rattle.fix_core.specs.Passes.{answer};
+ghost use Rattle.lin_solve.specs.Elimination.{solution_of};
 ghost use Rattle.kept_elimination.specs.Kept.{eliminated, matrix_of, solved};
 ghost use Rattle.kept_rows.specs.Held.{kept_columns, HasRoom, Divides};
 ghost use Rattle.kept_rows.specs.Whole.{IsKept, kept_of};
 ghost use Rattle.kept_rows.specs.Sound.{IsSound};
+ghost use Rattle.kept_rows.specs.Joined.{rows_with};
 
 use crate::column::{Column, eliminate};
-use crate::matrix::{copy_matrix, is_matrix_of};
+use crate::matrix::{copy_matrix, ends_alike, is_matrix_of, see_ranges};
 use crate::passes::solve_by;
 use crate::turns::scale_all;
 use fix_core::Fix;
@@ -103,6 +105,18 @@ impl Elimination {
         })
     }
 
+    /// Whether the elimination of the rows' coefficients is kept.
+    pub fn is_for(&self, rows: &[SparseRow]) -> bool
+        requires sound { IsSound self.now }
+        requires count { length rows.now ≡ length self.now.matrix.items }
+        requires rows { All (λ row. length row ≡ length rows.now + 1) rows.now }
+        ensures kept { IsTrue result → self.now.is_kept ≡ true }
+        ensures matrix { IsTrue result → self.now.matrix.items ≡ matrix_of rows.now }
+    {
+        let matrix = self.matrix.as_slice();
+        self.is_kept && ends_alike(matrix, rows) && is_matrix_of(matrix, rows)
+    }
+
     /// Sees that the elimination of the rows' coefficients is kept. None is where these have none.
     pub fn prepare(&mut self, rows: &[SparseRow]) -> bool
         requires sound { IsSound self.old }
@@ -112,7 +126,7 @@ impl Elimination {
         ensures kept { result ≡ self.new.is_kept }
         ensures matrix { self.new.matrix.items ≡ matrix_of rows.now }
     {
-        if self.is_kept && is_matrix_of(self.matrix.as_slice(), rows) {
+        if self.is_for(rows) {
             return true;
         }
         self.is_kept = keep(
@@ -135,5 +149,16 @@ impl Elimination {
         ensures { solved (kept_of self.now.turns.items self.now.columns.items) numbers.old ≡ answer result numbers.new }
     {
         solve_by(self.turns.as_slice(), self.columns.as_slice(), numbers)
+    }
+
+    /// Gives the unknowns of the kept matrix for right sides, in their place.
+    pub fn unknowns(&self, numbers: &mut [Fix]) -> Result<(), LinFault>
+        requires sound { IsSound self.now }
+        requires kept { self.now.is_kept ≡ true }
+        requires count { length numbers.old ≡ length self.now.matrix.items }
+        ensures { solution_of (rows_with self.now.matrix.items numbers.old) ≡ answer result numbers.new }
+    {
+        see_ranges(numbers);
+        self.solve(numbers)
     }
 }

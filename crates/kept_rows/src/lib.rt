@@ -1,6 +1,7 @@
-//! The elimination of the last coefficients, kept for systems that have the same ones.
+//! The eliminations of the last coefficients, kept for systems that have the same ones.
 #![tactic(auto)]
 
+mod choice;
 mod column;
 mod elimination;
 mod kept;
@@ -8,4 +9,5 @@ mod matrix;
 mod passes;
 mod turns;
 
+pub use elimination::Elimination;
 pub use kept::KeptElimination;

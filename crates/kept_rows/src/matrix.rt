@@ -7,6 +7,17 @@ ghost use Rattle.kept_elimination.specs.Kept.{matrix_of, right_sides as right_si
 use fix_core::Fix;
 use sparse_row::SparseRow;
 
+/// Whether the last rows have the same coefficients. These differ most often.
+pub fn ends_alike(matrix: &[SparseRow], rows: &[SparseRow]) -> bool
+    requires count { length matrix.now ≡ length rows.now }
+    requires matrix { All (λ row. length row ≡ length rows.now) matrix.now }
+    requires rows { All (λ row. length row ≡ length rows.now + 1) rows.now }
+    ensures { matrix.now ≡ matrix_of rows.now → IsTrue result }
+{
+    let last = rows.len().saturating_sub(1);
+    rows.is_empty() || matrix[last].begins(&rows[last])
+}
+
 /// Whether a matrix has the coefficients of the rows.
 pub fn is_matrix_of(matrix: &[SparseRow], rows: &[SparseRow]) -> bool
     requires count { length matrix.now ≡ length rows.now }
@@ -46,5 +57,15 @@ pub fn copy_right_sides(rows: &[SparseRow], numbers: &mut [Fix])
         // What is asked of the number is its range, for the proof.
         let _ = right_side.magnitude();
         numbers[i] = right_side;
+    }
+}
+
+/// Each number is in its range. It is proved, and changes nothing.
+pub fn see_ranges(numbers: &[Fix])
+    ensures { All IsInRange numbers.now }
+{
+    for i in 0..numbers.len() {
+        // What is asked of the number is its range, for the proof.
+        let _ = numbers[i].magnitude();
     }
 }

@@ -1,3 +1,4 @@
 pub mod Correcting
 pub mod Lengths
 pub mod Rounding
+pub mod Keeping

@@ -35,7 +35,7 @@ given t m a u e h = e ∙ ap (λ r. answer r a) h
 
 -- ---- a round
 
-abbrev system_at : Problem → List ℤ → Result (List (List ℤ)) EvalFault
+abbrev pub system_at : Problem → List ℤ → Result (List (List ℤ)) EvalFault
 system_at p x = each (linear_row p.unknowns (p.reads x)) p.rows
 
 pub round_not_filled : (p : Problem) (x : List ℤ) (r : Result (Unit {0}) EvalFault) (rows : List (List ℤ)) (t : Result (Unit {0}) Cause) (c : Cause)

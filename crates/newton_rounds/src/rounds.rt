@@ -4,13 +4,14 @@ ghost use Rattle.fix_core.specs.Passes.{answer};
 ghost use Rattle.design_meaning.specs.Newton.{newton, round};
 ghost use Rattle.design_meaning.specs.Steps.{rounds};
 ghost use Rattle.newton_rounds.specs.Rounds.{is_solution};
+ghost use Rattle.newton_rounds.specs.Kept.{IsKeptFor};
 
 use crate::causes::{cause, of_correction, of_evaluation, of_solution};
 use crate::correction::{are_within, correct};
 use crate::equation_set::EquationSet;
 use ams_point::Point;
 use fix_core::Fix;
-use kept_rows::KeptElimination;
+use kept_rows::{Elimination, KeptElimination};
 use message_codes::NO_CONVERGENCE;
 use sparse_rows::SparseRows;
 use std::alloc::{AllocError, Global};
@@ -128,6 +129,76 @@ impl Newton {
     {
         out.copy_from(from);
         let solved = self.iterate(set, out);
+        if solved.is_err() {
+            out.copy_from(from);
+        }
+        solved
+    }
+
+    /// One round by the kept elimination of the set's coefficients. Where it is refused, nothing is said of the point but its
+    /// length.
+    fn round_kept<S: EquationSet>(
+        &mut self,
+        set: &S,
+        elimination: &Elimination,
+        x: &mut Point,
+    ) -> Result<(), Cause>
+        requires size { self.old ≡ length (S.problem set.now).unknowns }
+        requires point { length x.old ≡ length (S.problem set.now).unknowns }
+        requires kept { IsKeptFor (S.problem set.now) elimination.now }
+        ensures answer { round (S.problem set.now) x.old ≡ answer result x.new }
+        ensures length { length x.new ≡ length x.old }
+        ensures size { self.new ≡ self.old }
+    {
+        let numbers = self.residuals.as_mut_slice();
+        of_evaluation(set.residuals(x, numbers))?;
+        of_solution(elimination.unknowns(numbers))?;
+        self.corrections.copy_from_slice(numbers);
+        of_correction(correct(x, &self.corrections))
+    }
+
+    /// Rounds from a point until it is a solution, by the kept elimination of the set's coefficients.
+    fn iterate_kept<S: EquationSet>(
+        &mut self,
+        set: &S,
+        elimination: &Elimination,
+        x: &mut Point,
+    ) -> Result<(), Cause>
+        requires size { self.old ≡ length (S.problem set.now).unknowns }
+        requires point { length x.old ≡ length (S.problem set.now).unknowns }
+        requires kept { IsKeptFor (S.problem set.now) elimination.now }
+        ensures answer { newton rounds (S.problem set.now) x.old ≡ answer result x.new }
+        ensures length { length x.new ≡ length x.old }
+        ensures size { self.new ≡ self.old }
+    {
+        for _round in 0..ROUNDS {
+            self.round_kept(set, elimination, x)?;
+            if self.is_solution(set, x)? {
+                return Ok(());
+            }
+        }
+        Err(cause(NO_CONVERGENCE))
+    }
+
+    /// The same solution, by the kept elimination of the set's coefficients: no row is filled.
+    pub fn solve_kept<S: EquationSet>(
+        &mut self,
+        set: &S,
+        elimination: &Elimination,
+        from: &Point,
+        out: &mut Point,
+    ) -> Result<(), Cause>
+        requires size { self.old ≡ length (S.problem set.now).unknowns }
+        requires from { length from.now ≡ length (S.problem set.now).unknowns }
+        requires room { length out.old ≡ length (S.problem set.now).unknowns }
+        requires kept { IsKeptFor (S.problem set.now) elimination.now }
+        ensures answer { newton rounds (S.problem set.now) from.now ≡ answer result out.new }
+        ensures kept { OnErr result (out.new ≡ from.now) }
+        ensures length { length out.new ≡ length from.now }
+        ensures size { self.new ≡ self.old }
+    {
+        out.copy_from(from);
+        let solved = self.iterate_kept(set, elimination, out);
         if solved.is_err() {
             out.copy_from(from);
         }

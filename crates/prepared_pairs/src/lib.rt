@@ -8,7 +8,7 @@ mod branches;
 mod pair;
 
 pub use branches::prepare_branches;
-pub use pair::PreparedPair;
+pub use pair::{PreparedPair, constant_in_row};
 
 /// A constant slope of an equation is its slope wherever it has a residual. It is proved, and does nothing when it runs.
 pub fn constant_is_the_row_slope()

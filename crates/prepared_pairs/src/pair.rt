@@ -43,7 +43,7 @@ fn difference(left: Option<Fix>, right: Option<Fix>) -> Option<Fix>
 }
 
 /// The slope of the left side less that of the right one, where both are constant.
-fn constant_in_row(pair: &Pair, unknown: Unknown) -> Option<Fix>
+pub fn constant_in_row(pair: &Pair, unknown: Unknown) -> Option<Fix>
     ensures { result ≡ constant_in_row pair.now unknown }
 {
     let left = constant_slope(&pair.left, unknown);

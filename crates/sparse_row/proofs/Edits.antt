@@ -1,5 +1,5 @@
 -- Writing an entry.
-use Rattle.std.proofs.Common.{◌≡◌, ◌≤◌, ◌<◌, ◌+◌, ℕ, zero, suc, true, false, ℤ, pos, List, [], ◌∷◌, length, set, get_or, arith, refl, sym, ap, ◌∙◌, inl, inr}
+use Rattle.std.proofs.Common.{◌≡◌, ◌≤◌, ◌<◌, ◌+◌, ℕ, zero, suc, true, false, ℤ, pos, List, [], ◌∷◌, ◌++◌, length, set, get_or, arith, refl, sym, ap, ◌∙◌, inl, inr}
 use Rattle.std.specs.Prelude.{nat_eq, unsigned_abs, insert, remove}
 use Rattle.std.proofs.Math.Nat.{eq-zero-or-pos}
 use Rattle.std.proofs.lemmas.Int.{ints}
@@ -209,4 +209,36 @@ room_for column width c (e ∷ more) from below h has =
           let apart : c < e.column = apart_of e.column c le (sym (has_here c e more le) ∙ has) in
           let rest : suc e.column + length more ≤ width = length_sparse (suc e.column) width more (omega (arith, f.below)) f.rest in
           omega (arith, from, apart, rest)
+    ]
+
+-- ---- behind all others
+
+-- the columns rise, so where the last one is before another all are
+pub place-behind : (c from width k : ℕ) (es : List Entry) (d : Entry) → k + 1 ≡ length es → is_sparse from width es ≡ true → (get_or es k d).column < c → place_in c es ≡ length es
+place-behind c from width k [] d at h last = place_none c
+place-behind c from width zero (e ∷ []) d at h last = place_next c e [] last ∙ ap suc (place_none c)
+place-behind c from width (suc k) (e ∷ []) d at h last = absurd (omega (arith, at))
+place-behind c from width zero (e ∷ e2 ∷ more) d at h last = absurd (omega (arith, at))
+place-behind c from width (suc k) (e ∷ e2 ∷ more) d at h last =
+    let f = first from width e (e2 ∷ more) h in
+    let rest : place_in c (e2 ∷ more) ≡ length (e2 ∷ more) = place-behind c (suc e.column) width k (e2 ∷ more) d (omega (arith, at)) f.rest last in
+    let g = first (suc e.column) width e2 more f.rest in
+    elim (cases_lt e2.column c) [
+      | inl lt ↦ place_next c e (e2 ∷ more) (omega (arith, lt, g.from)) ∙ ap suc rest
+      | inr le ↦ absurd (omega (arith, rest, place_first c e2 more le))
+    ]
+
+pub place-empty : (c : ℕ) (es : List Entry) → length es ≡ 0 → place_in c es ≡ length es
+place-empty c [] h = place_none c
+place-empty c (e ∷ more) h = absurd (omega (arith, h))
+
+pub has-behind : (c : ℕ) (es : List Entry) → place_in c es ≡ length es → has_in c es ≡ false
+has-behind c es h = has_past c es (omega (arith, h))
+
+pub with-behind : (c : ℕ) (v : ℤ) (es : List Entry) → place_in c es ≡ length es → with_entry c v es ≡ es ++ before c v []
+with-behind c v [] h = with_none c v
+with-behind c v (e ∷ more) h =
+    elim (cases_lt e.column c) [
+      | inl lt ↦ rw (with_later c v e more lt) (ap (λ (w : List Entry). e ∷ w) (with-behind c v more (omega (arith, h, place_next c e more lt))))
+      | inr le ↦ absurd (omega (arith, h, place_first c e more le))
     ]

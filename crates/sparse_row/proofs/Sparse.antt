@@ -21,7 +21,7 @@ and_both p q h k = rw (h, k) refl
 le_of : (a b : ℕ) → nat_le a b ≡ true → a ≤ b
 le_of a b h = grind (arith, nat_tests)
 
-lt_of : (a b : ℕ) → nat_lt a b ≡ true → a < b
+pub lt_of : (a b : ℕ) → nat_lt a b ≡ true → a < b
 lt_of a b h = grind (arith, nat_tests)
 
 pub is_le : (a b : ℕ) → a ≤ b → nat_le a b ≡ true

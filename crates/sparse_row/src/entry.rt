@@ -1,6 +1,6 @@
 //! Entries of a row, by their columns.
-ghost use Rattle.std.specs.Prelude.{◌≡◌, ◌<◌, ◌≤◌, false, vec_len, vec_capacity};
-ghost use Rattle.sparse_row.specs.Entries.{value_in, place_in, has_in, with_entry};
+ghost use Rattle.std.specs.Prelude.{◌≡◌, ◌<◌, ◌≤◌, ℕ, true, false, length, vec_len, vec_capacity, IsTrue};
+ghost use Rattle.sparse_row.specs.Entries.{is_sparse, value_in, place_in, has_in, with_entry};
 
 use fix_core::Fix;
 
@@ -42,6 +42,17 @@ fn has_at(entries: &[Entry], column: usize, place: usize) -> bool
     ensures { result ≡ has_in column entries.now }
 {
     place < entries.len() && entries[place].column == column
+}
+
+/// Whether a column is behind those of all entries, where they rise.
+pub fn is_behind(entries: &[Entry], column: usize) -> bool
+    ensures { IsTrue result → (from width : ℕ) → is_sparse from width entries.now ≡ true → place_in column entries.now ≡ length entries.now }
+{
+    if entries.is_empty() {
+        return true;
+    }
+    let end = entries.len() - 1;
+    entries[end].column < column
 }
 
 /// Writes an entry in its place. One that is 0 isn't kept.

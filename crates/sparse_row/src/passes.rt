@@ -43,7 +43,7 @@ fn behind(entries: &[Entry], column: usize) -> &[Entry]
 
 /// Appends an entry, where it isn't 0.
 #[tactic(auto, using(crate::proofs::Edits::parts))]
-fn append(entries: &mut Vec<Entry>, column: usize, value: Fix)
+pub fn append(entries: &mut Vec<Entry>, column: usize, value: Fix)
     requires room { vec_len entries.old < vec_capacity entries.old }
     ensures items { entries.new.items ≡ entries.old.items ++ before column value [] }
     ensures room { vec_capacity entries.old ≤ vec_capacity entries.new }

@@ -5,9 +5,9 @@ ghost use Rattle.fix_core.specs.Fixed.{IsInRange};
 ghost use Rattle.fix_core.specs.Passes.{answer};
 ghost use Rattle.lin_solve.specs.Elimination.{largest, tenfold, minus_row, reduced, substituted};
 
-use crate::entry::{Entry, value_at, write};
+use crate::entry::{Entry, is_behind, value_at, write};
 use crate::front::{append_all, front};
-use crate::passes::merge;
+use crate::passes::{append, merge};
 use crate::products::{substitute, subtract};
 use crate::scaling::{largest_before, raise};
 use fix_core::{Fix, NumFault};
@@ -68,13 +68,16 @@ impl SparseRow {
         self.entries.clear();
     }
 
-    /// Writes an entry.
+    /// Writes an entry. One behind all others is appended.
     pub fn set(&mut self, column: usize, v: Fix)
         requires { column < length self.old }
         ensures { self.new ≡ slice_set self.old column v }
     {
         // What is asked of the number is its range, for the proof.
         let _ = v.magnitude();
+        if is_behind(self.entries.as_slice(), column) {
+            return append(&mut self.entries, column, v);
+        }
         write(&mut self.entries, column, v);
     }
     /// Each entry loses `factor` times the pivot row's entry in the same column. What `spare` holds afterwards is left open.

@@ -9,6 +9,18 @@ use Rattle.kept_rows.specs.Told.{first_step}
 use Rattle.kept_rows.proofs.Columns.{step_start, step_is, step_left, drop_one}
 use Rattle.kept_rows.proofs.column.Column.take.Goals as goal
 
+pub reduce_all-requires-clause-divisor : goal.reduce_all-requires-clause-divisor
+reduce_all-requires-clause-divisor c =
+    let front = c.split_at_mut-first.result.0.now in
+    let column = c.args.column in
+    let one : 0 < length front = omega (arith, c.split_at_mut-first.ensures.front_len) in
+    let p1 : List ℤ = get_or front 0 c.index-first-0.result in
+    let p2 : List ℤ = get_or front 0 c.index-first-0-2.result in
+    let same : p1 ≡ p2 = get_or_default front 0 c.index-first-0.result c.index-first-0-2.result one in
+    let divisor : c.get-divisor.result ≡ coefficient column p2 = c.get-divisor.ensures ∙ ap (coefficient column) same in
+    let some : 0 < c.magnitude.result = omega arith in
+    rw (← divisor, ← c.magnitude.ensures.value) some
+
 pub returns-clause-answer : goal.returns-clause-answer
 returns-clause-answer c =
     let front = c.split_at_mut-first.result.0.now in
