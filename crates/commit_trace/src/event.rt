@@ -8,7 +8,7 @@ use crate::append::{
     push_head, push_line_feed, push_number_line, push_numbers, push_real, push_reals, push_word,
     push_word_line, truth_word,
 };
-use crate::value::push_value;
+use crate::value::{bit_digit, push_value};
 use ams_value::Val;
 use fix_core::Fix;
 use flat_design::Enumeration;
@@ -19,6 +19,9 @@ fn push_solved(out: &mut Vec<u8>, t: u64, n: u32, x: &[Fix]) -> Result<(), Alloc
     ensures ok { OnOk result (out.new.items ≡ out.old.items ++ line_of (codes "P") (decimal t ∷ decimal n ∷ map text_of x.now)) }
     ensures err { OnErr result (IsFront out.old.items out.new.items) }
 {
+    if x.is_empty() {
+        return push_number_line(out, b'P', &[t, u64::from(n)]);
+    }
     push_head(out, b'P', &[t, u64::from(n)])?;
     push_reals(out, x)?;
     push_line_feed(out)
@@ -29,6 +32,19 @@ fn push_crossing(out: &mut Vec<u8>, t: u64, n: u32, k: u32, on: bool) -> Result<
     ensures err { OnErr result (IsFront out.old.items out.new.items) }
 {
     push_word_line(out, b'X', &[t, u64::from(n), u64::from(k)], truth_word(on))
+}
+
+/// The last field, and the end of the line.
+fn push_last(out: &mut Vec<u8>, value: Val, enums: &[Enumeration]) -> Result<(), AllocError>
+    ensures ok { OnOk result (out.new.items ≡ out.old.items ++ fields_text (value_text enums.now value ∷ []) ++ codes "\n") }
+    ensures err { OnErr result (IsFront out.old.items out.new.items) }
+{
+    if let Val::Bit(bit) = value {
+        return out.extend_from_slice(&[b' ', bit_digit(bit), b'\n']);
+    }
+    out.extend_from_slice(b" ")?;
+    push_value(out, value, enums)?;
+    push_line_feed(out)
 }
 
 fn push_signal(
@@ -43,9 +59,7 @@ fn push_signal(
     ensures err { OnErr result (IsFront out.old.items out.new.items) }
 {
     push_head(out, b'S', &[t, u64::from(n), u64::from(i)])?;
-    out.extend_from_slice(b" ")?;
-    push_value(out, value, enums)?;
-    push_line_feed(out)
+    push_last(out, value, enums)
 }
 
 fn push_element(out: &mut Vec<u8>, element: Element) -> Result<(), AllocError>
